@@ -1,0 +1,4 @@
+pub mod PackingLaws
+pub mod Taken
+pub mod Unreads
+pub mod Written

@@ -1,0 +1,10 @@
+-- The fields, one after the other.
+use Rattle.std.proofs.Common.{refl, rules, append_assoc, append-nil, to_z-of_z, FitsSigned, w32}
+use Rattle.adsc_groups.proofs.kinds.coding.encode_fixed.Goals as goal
+
+pub returns-clause-bits : goal.returns-clause-bits
+returns-clause-bits c =
+    let lat : FitsSigned w32 c.args.fixed.now.lat = search rules in
+    let lon : FitsSigned w32 c.args.fixed.now.lon = search rules in
+    let alt : FitsSigned w32 c.args.fixed.now.alt = search rules in
+    simp (c.put.ensures.bits, c.put_signed-3.ensures.bits, c.put_signed-2.ensures.bits, c.put_signed.ensures.bits, to_z-of_z, append_assoc, append-nil) refl

@@ -1,0 +1,89 @@
+//! Encoding and decoding of the basic data.
+
+ghost use Rattle.std.specs.Prelude.{◌≡◌, ℕ, ◌+◌, ◌≤◌, ◌↔◌, ℤ, Bool, List, ◌++◌, length, IfOk, IsOkAnd, IsErrAnd, OnErr};
+ghost use Rattle.bit_terms.specs.Reading.{Gives};
+ghost use Rattle.adsc_groups.specs.Fields.{Encodes, FitFields, WereRead, IsFirstCut, fields_at};
+ghost use Rattle.adsc_groups.specs.Basic.{BasicData, basic_bits, basic_fields, basic_values};
+ghost use Rattle.adsc_groups.specs.BasicView.{basic_data};
+
+use crate::basic::Basic;
+use adsc_bits::{BitReader, BitWriter, Short};
+
+/// Writes the basic data, ten octets with the padding zero. There is room for them.
+///
+/// Source: RTCA DO-258A / EUROCAE ED-100A; zeros as padding are this project's profile.
+#[tactic(auto, unfolding(crate::specs::Basic::basic_bits))]
+pub fn encode_basic(basic: &Basic, out: &mut BitWriter)
+    requires { length out.old + 80 ≤ 2040 }
+    ensures bits { out.new ≡ out.old ++ basic_bits (basic_data basic.now) }
+    ensures len { length out.new ≡ length out.old + 80 }
+{
+    out.put_signed(basic.lat, 21);
+    out.put_signed(basic.lon, 21);
+    out.put_signed(basic.alt, 16);
+    out.put(basic.sec, 15);
+    out.put(0, 2);
+    out.put(basic.tcas as u32, 1);
+    out.put(basic.accuracy as u32, 3);
+    out.put(basic.redundancy as u32, 1);
+}
+
+/// The basic data that stands next, whatever its padding. The reader then stands just past it.
+///
+/// Source: RTCA DO-258A / EUROCAE ED-100A.
+///
+/// # Errors
+///
+/// `Short` exactly where a field isn't wholly there, at its first bit; padding is a field too. The reader does not move then.
+pub fn decode_basic(from: &mut BitReader) -> Result<Basic, Short>
+    // What is read is encoded so, and what is encoded so is read.
+    ensures found { IfOk result (λ b. WereRead basic_fields (basic_values (basic_data b)) from.old from.new) }
+    ensures only { (values : List ℤ) (bits rest : List Bool) → Encodes basic_fields values bits → from.old.left ≡ bits ++ rest
+        → IsOkAnd result (λ b. basic_values (basic_data b) ≡ values) × (from.new.left ≡ rest) }
+    ensures written { (basic : BasicData) (rest : List Bool) → FitFields basic_fields (basic_values basic)
+        → from.old.left ≡ basic_bits basic ++ rest
+        → IsOkAnd result (λ b. basic_data b ≡ basic) × (from.new.left ≡ rest) }
+
+    // A refusal is at the first field that is cut.
+    ensures short { (bit : ℕ) → IsErrAnd result (λ e. e.bit ≡ bit) ↔ IsFirstCut basic_fields from.old bit }
+    ensures unmoved { OnErr result (from.new ≡ from.old) }
+
+    // All of this as one function of what is left.
+    ensures gives { Gives (λ b. basic_values (basic_data b)) (λ e. e.bit) result from.new (fields_at basic_fields from.old) }
+{
+    basic_from(from)
+}
+
+// Reads with a second reader, so that a refusal leaves the first where it stands.
+fn basic_from(from: &mut BitReader) -> Result<Basic, Short>
+    ensures gives { Gives (λ b. basic_values (basic_data b)) (λ e. e.bit) result from.new (fields_at basic_fields from.old) }
+    ensures unmoved { OnErr result (from.new ≡ from.old) }
+{
+    let mut ahead = from.fork();
+    let basic = basic_ahead(&mut ahead)?;
+    *from = ahead;
+    Ok(basic)
+}
+
+#[tactic(auto, unfolding(crate::specs::Fields::fields_at))]
+fn basic_ahead(from: &mut BitReader) -> Result<Basic, Short>
+    ensures { Gives (λ b. basic_values (basic_data b)) (λ e. e.bit) result from.new (fields_at basic_fields from.old) }
+{
+    let lat = from.take_signed(21)?;
+    let lon = from.take_signed(21)?;
+    let alt = from.take_signed(16)?;
+    let sec = from.take(15)?;
+    from.take(2)?;
+    let tcas = from.take(1)? as u8;
+    let accuracy = from.take(3)? as u8;
+    let redundancy = from.take(1)? as u8;
+    Ok(Basic {
+        lat,
+        lon,
+        alt,
+        sec,
+        tcas,
+        accuracy,
+        redundancy,
+    })
+}

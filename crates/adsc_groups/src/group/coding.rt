@@ -1,0 +1,134 @@
+//! Encoding and decoding of a report group of any kind.
+
+ghost use Rattle.std.specs.Prelude.{◌≡◌, ℕ, ◌+◌, ◌*◌, ◌≤◌, ◌↔◌, Bool, false, List, ◌++◌, length, IfOk, IsOkAnd, IsErrAnd, OnErr};
+ghost use Rattle.bit_terms.specs.Reading.{Gives};
+ghost use Rattle.adsc_groups.specs.Fields.{WereRead, IsFirstCut};
+ghost use Rattle.adsc_groups.specs.Groups.{GroupData, IsGroupTag, is_group_tag, group_fields, EncodesGroup, FitsGroup, group_bits, group_at};
+ghost use Rattle.adsc_groups.specs.declared.refusal.GroupWhy.TheVariants as why;
+ghost use Rattle.adsc_groups.specs.GroupView.{group_data, group_size};
+
+use crate::group::Group;
+use crate::kinds::{
+    decode_airframe, decode_fixed, decode_flight_id, decode_intermediate, decode_motion,
+    decode_route, decode_weather, encode_airframe, encode_fixed, encode_flight_id,
+    encode_intermediate, encode_motion, encode_route, encode_weather,
+};
+use crate::refusal::{GroupRefusal, GroupWhy};
+use adsc_bits::{BitReader, BitWriter};
+
+/// The tag of a group: 12 to 17, 22 or 23.
+pub fn group_tag(group: &Group) -> u8
+    ensures value { result ≡ (group_data group.now).tag }
+    ensures form { IsGroupTag result }
+{
+    match group {
+        Group::FlightId(_) => 12,
+        Group::Route(_) => 13,
+        Group::Earth(_) => 14,
+        Group::Air(_) => 15,
+        Group::Weather(_) => 16,
+        Group::Airframe(_) => 17,
+        Group::Intermediate(_) => 22,
+        Group::Fixed(_) => 23,
+    }
+}
+
+/// How many octets the data of a group has, without its tag: 3 to 17.
+pub fn group_octets(group: &Group) -> u8
+    ensures size { 8 * result ≡ group_size group.now }
+    ensures within { result ≤ 17 }
+{
+    match group {
+        Group::FlightId(_) => 6,
+        Group::Route(_) => 17,
+        Group::Earth(_) => 5,
+        Group::Air(_) => 5,
+        Group::Weather(_) => 4,
+        Group::Airframe(_) => 3,
+        Group::Intermediate(_) => 8,
+        Group::Fixed(_) => 9,
+    }
+}
+
+/// Writes the data of a group without its tag, with the padding zero. There is room for it.
+///
+/// Source: RTCA DO-258A / EUROCAE ED-100A; zeros as padding are this project's profile.
+#[tactic(auto, unfolding(crate::specs::Groups::group_bits))]
+pub fn encode_group(group: &Group, out: &mut BitWriter)
+    requires { length out.old + group_size group.now ≤ 2040 }
+    ensures bits { out.new ≡ out.old ++ group_bits (group_data group.now) }
+    ensures len { length out.new ≡ length out.old + group_size group.now }
+{
+    match group {
+        Group::FlightId(id) => encode_flight_id(id, out),
+        Group::Route(route) => encode_route(route, out),
+        Group::Earth(motion) => encode_motion(motion, out),
+        Group::Air(motion) => encode_motion(motion, out),
+        Group::Weather(weather) => encode_weather(weather, out),
+        Group::Airframe(airframe) => encode_airframe(airframe, out),
+        Group::Intermediate(intermediate) => encode_intermediate(intermediate, out),
+        Group::Fixed(fixed) => encode_fixed(fixed, out),
+    }
+}
+
+/// The group whose data stands next, behind this tag, whatever its padding. The reader then stands just past it.
+///
+/// Source: RTCA DO-258A / EUROCAE ED-100A.
+///
+/// # Errors
+///
+/// `Tag` exactly where the tag is none of 12 to 17, 22 and 23, at the reader's place. `Short` exactly where a field isn't wholly there,
+/// at its first bit; padding is a field too. The reader does not move then.
+pub fn decode_group(tag: u8, from: &mut BitReader) -> Result<Group, GroupRefusal>
+    // What is read is encoded so, and what is encoded so is read.
+    ensures found { IfOk result (λ g. ((group_data g).tag ≡ tag) × IsGroupTag tag
+        × WereRead (group_fields tag) (group_data g).values from.old from.new) }
+    ensures only { (group : GroupData) (bits rest : List Bool) → group.tag ≡ tag → EncodesGroup group bits
+        → from.old.left ≡ bits ++ rest → IsOkAnd result (λ g. group_data g ≡ group) × (from.new.left ≡ rest) }
+    ensures written { (group : GroupData) (rest : List Bool) → group.tag ≡ tag → FitsGroup group
+        → from.old.left ≡ group_bits group ++ rest
+        → IsOkAnd result (λ g. group_data g ≡ group) × (from.new.left ≡ rest) }
+
+    // A refusal is at the tag, or at the first field that is cut.
+    ensures tag { (bit : ℕ) → IsErrAnd result (λ e. e ≡ record { bit = bit; why = why.Tag })
+        ↔ ((is_group_tag tag ≡ false) × (bit ≡ from.old.at)) }
+    ensures short { (bit : ℕ) → IsErrAnd result (λ e. e ≡ record { bit = bit; why = why.Short })
+        ↔ (IsGroupTag tag × IsFirstCut (group_fields tag) from.old bit) }
+    ensures unmoved { OnErr result (from.new ≡ from.old) }
+
+    // All of this as one function of what is left.
+    ensures gives { Gives group_data (λ e. e) result from.new (group_at tag from.old) }
+{
+    group_from(tag, from)
+}
+
+// Reads with a second reader, so that a refusal leaves the first where it stands.
+fn group_from(tag: u8, from: &mut BitReader) -> Result<Group, GroupRefusal>
+    ensures gives { Gives group_data (λ e. e) result from.new (group_at tag from.old) }
+    ensures unmoved { OnErr result (from.new ≡ from.old) }
+{
+    let mut ahead = from.fork();
+    let group = group_ahead(tag, &mut ahead)?;
+    *from = ahead;
+    Ok(group)
+}
+
+#[tactic(auto, unfolding(crate::specs::Groups::group_at))]
+fn group_ahead(tag: u8, from: &mut BitReader) -> Result<Group, GroupRefusal>
+    ensures { Gives group_data (λ e. e) result from.new (group_at tag from.old) }
+{
+    match tag {
+        12 => Ok(Group::FlightId(decode_flight_id(from)?)),
+        13 => Ok(Group::Route(decode_route(from)?)),
+        14 => Ok(Group::Earth(decode_motion(from)?)),
+        15 => Ok(Group::Air(decode_motion(from)?)),
+        16 => Ok(Group::Weather(decode_weather(from)?)),
+        17 => Ok(Group::Airframe(decode_airframe(from)?)),
+        22 => Ok(Group::Intermediate(decode_intermediate(from)?)),
+        23 => Ok(Group::Fixed(decode_fixed(from)?)),
+        _ => Err(GroupRefusal {
+            bit: from.bit(),
+            why: GroupWhy::Tag,
+        }),
+    }
+}

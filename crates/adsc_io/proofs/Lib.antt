@@ -1,0 +1,4 @@
+pub mod Joined
+pub mod LimitsTied
+pub mod LinesLaws
+pub mod MemoryLemmas

@@ -1,0 +1,7 @@
+pub mod Causes
+pub mod Limits
+pub mod Lines
+pub mod Memory
+pub mod Writes
+pub mod Standard
+pub mod Whole

@@ -1,0 +1,4 @@
+pub mod BitsLaws
+pub mod OctetsLaws
+pub mod SignedLaws
+pub mod ReadingLaws

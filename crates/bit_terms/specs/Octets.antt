@@ -1,0 +1,13 @@
+-- The bits of octets, and the number that bits spell. Bits go most significant first, octets in the order in which they are sent (RTCA DO-258A / EUROCAE ED-100A).
+use Rattle.std.specs.Prelude.{ℕ, ◌+◌, ◌^◌, Bool, true, false, List, [], ◌∷◌, length, flat_map}
+use Rattle.bit_terms.specs.Bits.{unsigned_bits}
+
+-- The bits of a list of octets: the eight bits of each octet, joined.
+abbrev pub octets_bits : List ℕ → List Bool
+octets_bits octets = flat_map (unsigned_bits 8) octets
+
+-- The number that bits spell, the most significant first: a one counts two to the power of the number of bits after it.
+unfoldable pub number_of : List Bool → ℕ
+number_of [] = 0
+number_of (true ∷ bits) = 2 ^ length bits + number_of bits
+number_of (false ∷ bits) = number_of bits

@@ -1,0 +1,13 @@
+pub mod Worked
+pub mod Steps
+pub mod Independence
+pub mod FiveLinks
+pub mod Standing
+pub mod LiveAndInForce
+pub mod Series
+pub mod Anchors
+pub mod Equality
+pub mod Unchanged
+pub mod AtMostFive
+pub mod LinkSteps
+pub mod Counted

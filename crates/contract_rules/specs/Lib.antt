@@ -1,0 +1,15 @@
+pub mod Limits
+pub mod Messages
+pub mod Acts
+pub mod LookingBack
+pub mod LiveLinks
+pub mod InForce
+pub mod Reports
+pub mod Emergency
+pub mod Verdicts
+pub mod Periodic
+pub mod Events
+pub mod Due
+pub mod Histories
+pub mod Laws
+pub mod Retellings

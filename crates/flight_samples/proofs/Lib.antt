@@ -1,0 +1,6 @@
+pub mod DecimalLemmas
+pub mod RowLemmas
+pub mod ColumnLemmas
+pub mod Readings
+pub mod DecimalTexts
+pub mod SampleTexts

@@ -1,0 +1,4 @@
+pub mod Decimals
+pub mod Columns
+pub mod Samples
+pub mod SampleText
