@@ -1,0 +1,10 @@
+pub mod DivisionLaws
+pub mod CheckSteps
+pub mod DigitsLaws
+pub mod TextLaws
+pub mod RegistrationLaws
+pub mod PassingLaws
+pub mod SealedLaws
+pub mod FaultLaws
+pub mod EnvelopeLaws
+pub mod PrintableLaws

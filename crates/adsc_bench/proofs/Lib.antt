@@ -1,0 +1,10 @@
+pub mod BenchLaws
+pub mod DemandsLaws
+pub mod FieldsLaws
+pub mod HeadLaws
+pub mod JournalLaws
+pub mod ListLemmas
+pub mod OptionLemmas
+pub mod OutputLaws
+pub mod ScriptLaws
+pub mod UplinksLaws

@@ -1,0 +1,6 @@
+-- The words of the command line (this project's profile).
+use Rattle.std.specs.Prelude.{◌≡◌, ℕ, List, [], ◌∷◌, codes}
+
+-- `run 1`: run a script on one worker
+abbrev pub AskForRun : List (List ℕ) → Type 0
+AskForRun words = words ≡ codes "run" ∷ codes "1" ∷ []

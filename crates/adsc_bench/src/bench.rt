@@ -1,0 +1,71 @@
+//! All that the program does.
+ghost use Rattle.std.specs.Prelude.{◌≡◌, ◌≢◌, ◌⊎◌, ℕ, List, IfSome, map};
+ghost use Rattle.std.specs.String.{string_bytes};
+ghost use Rattle.std.specs.Io.KnownBytes.{Appends, IsAtEnd};
+ghost use Rattle.adsc_io.specs.Causes.{Rose};
+ghost use Rattle.adsc_io.specs.Writes.{AppendsPrefix};
+ghost use Rattle.adsc_bench.specs.Script.{HasFirstForm, IsOutput};
+ghost use Rattle.adsc_bench.specs.Words.{AskForRun};
+
+use crate::run::output_for;
+use crate::status::Status;
+use crate::words::ask_for_run;
+use adsc_io::{NoMemory, Sink, Source, WholeEnd, WriteFault, read_whole, write_all};
+use std::alloc::Global;
+
+/// Does what the words of the command line ask for, and answers how it ended.
+///
+/// `run 1` reads a script from the source, runs it on one worker, and writes its output to the sink. The words are those
+/// behind the program's name. What each status promises is stated by the clauses; want of memory alone is free.
+pub fn top<S: Source, K: Sink>(
+    alloc: Global,
+    words: &[String],
+    source: &mut S,
+    sink: &mut K,
+) -> Status
+    // Done: the source was read to its end, and the bytes written are the output of the script that it held.
+    ensures done { result ≡ Status.Done → IfSome (S.left source.old) (λ bytes. IsAtEnd (S.left source.new)
+        × ((text : List ℕ) × IsOutput bytes text × Appends (K.written sink.old) (K.written sink.new) text)) }
+    // Words: exactly where the words have no listed form, and then nothing is read or written.
+    ensures words_only { result ≡ Status.Words → AskForRun (map string_bytes words.now) → ⊥ }
+    ensures words_refused { (AskForRun (map string_bytes words.now) → ⊥) → result ≡ Status.Words }
+    ensures untouched { result ≡ Status.Words → source.new ≡ source.old }
+    // Faults: only where the count of the source or of the sink rose in this call.
+    ensures read { result ≡ Status.ReadFault → Rose (S.faults source.old) (S.faults source.new) }
+    ensures write { result ≡ Status.WriteFault → Rose (K.faults sink.old) (K.faults sink.new) }
+    // What is written: the whole output, a beginning of it at a fault of the sink, and else nothing.
+    ensures prefix { result ≡ Status.WriteFault → IfSome (S.left source.old) (λ bytes.
+        (text : List ℕ) × IsOutput bytes text × AppendsPrefix (K.written sink.old) (K.written sink.new) text) }
+    ensures unwritten { result ≢ Status.Done → result ≢ Status.WriteFault → sink.new ≡ sink.old }
+    // Not built: only where the input hasn't the form that is built.
+    ensures not_built { result ≡ Status.NotBuilt → IfSome (S.left source.old) (λ bytes. HasFirstForm bytes → ⊥) }
+    // Where no fault comes, the status is the one that the input's form says, or want of memory.
+    ensures complete { AskForRun (map string_bytes words.now)
+        → (Rose (S.faults source.old) (S.faults source.new) → ⊥) → (Rose (K.faults sink.old) (K.faults sink.new) → ⊥)
+        → IfSome (S.left source.old) (λ bytes. HasFirstForm bytes → (result ≡ Status.Done) ⊎ (result ≡ Status.NoMemory)) }
+    ensures refused { AskForRun (map string_bytes words.now)
+        → (Rose (S.faults source.old) (S.faults source.new) → ⊥) → (Rose (K.faults sink.old) (K.faults sink.new) → ⊥)
+        → IfSome (S.left source.old) (λ bytes. (HasFirstForm bytes → ⊥) → (result ≡ Status.NotBuilt) ⊎ (result ≡ Status.NoMemory)) }
+{
+    if !ask_for_run(words) {
+        return Status::Words;
+    }
+    let whole = match read_whole(alloc, source) {
+        Ok(whole) => whole,
+        Err(NoMemory) => return Status::NoMemory,
+    };
+    match whole.end {
+        WholeEnd::End => {}
+        WholeEnd::Fault => return Status::ReadFault,
+        WholeEnd::Over => return Status::NotBuilt,
+    }
+    let output = match output_for(alloc, whole.bytes.bytes()) {
+        Ok(Some(output)) => output,
+        Ok(None) => return Status::NotBuilt,
+        Err(NoMemory) => return Status::NoMemory,
+    };
+    match write_all(sink, output.as_slice()) {
+        Ok(()) => Status::Done,
+        Err(WriteFault) => Status::WriteFault,
+    }
+}

@@ -1,0 +1,27 @@
+//! The bench: all that the program does, over any source and any sink.
+//!
+//! `top` takes the words of the command line, reads a script from the source, runs it against an aircraft, and writes what
+//! the aircraft answered to the sink; its clauses say what was written, and when each status may come. The program
+//! `bench_program` stands above it and hands in the real input and output. Today it runs scripts of one form: one aircraft,
+//! one ground address, a first sample whose columns are all 0, and demands.
+//! Begin with `specs/Script.antt`, which says what a script of that form is and what its output is, and then `bench`.
+#![tactic(auto)]
+
+mod airframe;
+mod begin;
+mod bench;
+mod demand_lines;
+mod demands;
+mod fields;
+mod head;
+mod output;
+mod run;
+mod script;
+mod status;
+#[cfg(test)]
+mod tests;
+mod uplinks;
+mod words;
+
+pub use bench::top;
+pub use status::Status;

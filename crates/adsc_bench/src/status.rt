@@ -1,0 +1,29 @@
+//! How the program ends.
+ghost use Rattle.std.specs.Prelude.{◌≡◌};
+ghost use Rattle.adsc_bench.specs.Statuses.{status_number};
+
+/// How the program ended. The statuses and their numbers are this project's profile.
+#[derive(Clone, Copy, Debug, PartialEq, Eq)]
+pub enum Status {
+    /// The whole input was read and the whole output written.
+    Done = 0,
+    /// The words of the command line have no listed form. Nothing was read or written.
+    Words = 2,
+    /// The input could not be read. Nothing was written.
+    ReadFault = 3,
+    /// The output could not be written. A beginning of it was.
+    WriteFault = 4,
+    /// There was not enough memory. Nothing was written.
+    NoMemory = 6,
+    /// The input is of a form that is not built yet. Nothing was written.
+    NotBuilt = 8,
+}
+
+impl Status {
+    /// The number with which the program ends.
+    pub fn number(self) -> u8
+        ensures { result ≡ status_number self }
+    {
+        self as u8
+    }
+}

@@ -1,0 +1,146 @@
+// Whole runs over sources and sinks in memory. The texts were made by another program, from the tables of the formats.
+use super::*;
+use adsc_io::{MemSink, MemSource};
+use std::alloc::Global;
+use std::test::Fail;
+
+const HEAD: &str =
+    "A,N12345,ANZ1,C81234\nG,AKLCDYA\nS,0,0,0,0,0,0,0,0,0,0,0,0,0,0,0,0,0,0,0,0,0,0,0,0,0,0\n";
+
+/// The words of a command line.
+fn words_of(alloc: Global, texts: &[&str]) -> Result<Vec<String>, Fail> {
+    let mut words = Vec::new(alloc);
+    for text in texts {
+        words.push(String::from_str(alloc, text)?)?;
+    }
+    Ok(words)
+}
+
+#[test]
+fn scripts_are_run(rt: HostRuntime) -> Result<(), Fail> {
+    let alloc = rt.alloc();
+    let words = words_of(alloc, &["run", "1"])?;
+    let demand = "U,/AKLCDYA.ADS.N123450701BD4F\n";
+    let table: [(&str, &str, Status, &str); 12] = [
+        (HEAD, "", Status::Done, "J\nL,AKLCDYA,none\nOK\n"),
+        (
+            HEAD,
+            demand,
+            Status::Done,
+            "J,4\nL,AKLCDYA,none\nD,/AKLCDYA.ADS.N12345030107000000000000000000007E26\nOK\n",
+        ),
+        (
+            HEAD,
+            "U,/AKLCDYA.ADS.N123450701BD4F\nU,/AKLCDYA.ADS.N1234507FFB39E",
+            Status::Done,
+            "J,4,5\nL,AKLCDYA,none\nD,/AKLCDYA.ADS.N12345030107000000000000000000007E26\nD,/AKLCDYA.ADS.N1234503FF070000000000000000000040A1\nOK\n",
+        ),
+        // A check that isn't the one that is due, a payload that is no demand, another address, another letter.
+        (
+            HEAD,
+            "U,/AKLCDYA.ADS.N123450701BD4E\n",
+            Status::NotBuilt,
+            "",
+        ),
+        (
+            HEAD,
+            "U,/AKLCDYA.ADS.N123450209C3B2\n",
+            Status::NotBuilt,
+            "",
+        ),
+        (
+            HEAD,
+            "U,/NFFNDYA.ADS.N123450701BD4F\n",
+            Status::NotBuilt,
+            "",
+        ),
+        (HEAD, "T,0\n", Status::NotBuilt, ""),
+        // First lines of another form, or too few of them.
+        ("", "", Status::NotBuilt, ""),
+        (
+            "A,N12345,ANZ1,C81234\nG,AKLCDYA\n",
+            "",
+            Status::NotBuilt,
+            "",
+        ),
+        (
+            "A,N12345,ANZ1,C81234\nG,AKLCDYA\nS,1,0,0,0,0,0,0,0,0,0,0,0,0,0,0,0,0,0,0,0,0,0,0,0,0,0\n",
+            "",
+            Status::NotBuilt,
+            "",
+        ),
+        (
+            "A,N12345,ANZ1,c81234\nG,AKLCDYA\nS,0,0,0,0,0,0,0,0,0,0,0,0,0,0,0,0,0,0,0,0,0,0,0,0,0,0\n",
+            "",
+            Status::NotBuilt,
+            "",
+        ),
+        (
+            "A,N12345,ANZ1,C81234\nG,AKLCDYA,NFFNDYA\nS,0,0,0,0,0,0,0,0,0,0,0,0,0,0,0,0,0,0,0,0,0,0,0,0,0,0\n",
+            "",
+            Status::NotBuilt,
+            "",
+        ),
+    ];
+    for (head, lines, status, output) in table {
+        let script = format!(in alloc; "{head}{lines}")?;
+        let mut source = MemSource::new(alloc, script.as_bytes(), 7, &[])?;
+        let mut sink = MemSink::new(alloc, 1_000, 5, &[])?;
+        assert_eq!(rt;
+            top(alloc, words.as_slice(), &mut source, &mut sink),
+            status,
+            "at {lines}"
+        );
+        assert_eq!(rt; sink.written(), output.as_bytes(), "at {lines}");
+    }
+    Ok(())
+}
+
+#[test]
+fn other_words_read_and_write_nothing(rt: HostRuntime) -> Result<(), Fail> {
+    let alloc = rt.alloc();
+    let table: [&[&str]; 6] = [
+        &[],
+        &["run"],
+        &["run", "6"],
+        &["run", "1", "1"],
+        &["RUN", "1"],
+        &["1", "run"],
+    ];
+    for texts in table {
+        let words = words_of(alloc, texts)?;
+        let mut source = MemSource::new(alloc, HEAD.as_bytes(), 100, &[1])?;
+        let mut sink = MemSink::new(alloc, 100, 100, &[])?;
+        assert_eq!(rt;
+            top(alloc, words.as_slice(), &mut source, &mut sink),
+            Status::Words
+        );
+        assert_eq!(rt; source.faults(), 0);
+        assert_eq!(rt; sink.written(), b"".as_slice());
+    }
+    Ok(())
+}
+
+#[test]
+fn faults_end_a_run(rt: HostRuntime) -> Result<(), Fail> {
+    let alloc = rt.alloc();
+    let words = words_of(alloc, &["run", "1"])?;
+    let mut source = MemSource::new(alloc, HEAD.as_bytes(), 100, &[1])?;
+    let mut sink = MemSink::new(alloc, 100, 100, &[])?;
+    assert_eq!(rt;
+        top(alloc, words.as_slice(), &mut source, &mut sink),
+        Status::ReadFault
+    );
+    assert_eq!(rt; source.faults(), 1);
+    assert_eq!(rt; sink.written(), b"".as_slice());
+
+    let mut source = MemSource::new(alloc, HEAD.as_bytes(), 100, &[])?;
+    let mut sink = MemSink::new(alloc, 100, 1, &[2])?;
+    assert_eq!(rt;
+        top(alloc, words.as_slice(), &mut source, &mut sink),
+        Status::WriteFault
+    );
+    assert_eq!(rt; sink.faults(), 1);
+    assert_eq!(rt; sink.written(), b"J".as_slice());
+    Ok(())
+}

@@ -1,0 +1,2 @@
+pub mod DownlinksLaws
+pub mod LinesOfDownlinks
