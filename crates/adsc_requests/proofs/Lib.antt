@@ -1,0 +1,13 @@
+pub mod Collecting
+pub mod AskedLemmas
+pub mod ReadingLemmas
+pub mod MessagesLemmas
+pub mod Rows
+pub mod Along
+pub mod Encodings
+pub mod OneOrOther
+pub mod Sizes
+pub mod ReadingLaws
+pub mod WritingLemmas
+pub mod Whole
+pub mod Injective

@@ -1,0 +1,10 @@
+pub mod Watching
+pub mod Tables
+pub mod Contents
+pub mod Grammar
+pub mod Faults
+pub mod Asking
+pub mod Reading
+pub mod Refusals
+pub mod Writing
+pub mod Kinds

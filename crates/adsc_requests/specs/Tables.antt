@@ -1,0 +1,55 @@
+-- The tables of the uplink format: tags, which groups a message may have, the size and the admitted values of a
+-- group's data. Grammar, faults, reading and writing all cite them. After RTCA DO-258A / EUROCAE ED-100A in
+-- this project's profile.
+use Rattle.std.specs.Prelude.{ℕ, List, Bool, false, ◌&&◌, ◌||◌, ◌==◌, nat_le, Option, Some, None, if◌then◌else◌, slice_index, take, drop, ℤ, int_lt}
+use Rattle.std.specs.Int.{w16, from_be_bytes, cast_signed}
+
+-- cancel all, cancel, cancel emergency mode; periodic, event and emergency periodic request
+unfoldable pub is_message_tag : ℕ → Bool
+is_message_tag t = (t == 1) || (t == 2) || (t == 6) || (t == 7) || (t == 8) || (t == 9)
+
+-- periodic, event and emergency periodic request: the messages that have groups
+unfoldable pub is_request_tag : ℕ → Bool
+is_request_tag t = (t == 7) || (t == 8) || (t == 9)
+
+-- the reporting modulus groups
+unfoldable pub is_modulus_tag : ℕ → Bool
+is_modulus_tag t = nat_le 12 t && nat_le t 17
+
+-- the groups of all messages
+unfoldable pub is_group_tag : ℕ → Bool
+is_group_tag t = nat_le 10 t && nat_le t 21
+
+-- the groups of a message, by the message's tag and the group's
+unfoldable pub allows : ℕ → ℕ → Bool
+allows m t =
+    if (m == 7) || (m == 9) then (t == 11) || is_modulus_tag t || (t == 21)
+    else if m == 8 then (t == 10) || (t == 18) || (t == 19) || (t == 20)
+    else false
+
+-- how many octets the data of a group has
+unfoldable pub data_size : ℕ → ℕ
+data_size t = if t == 19 then 4 else if t == 20 then 0 else if t == 21 then 2 else 1
+
+-- how many octets each field of a group's data has: the ceiling and the floor are two fields of two octets, the
+-- modulus and the minutes of an intent are two fields of one
+unfoldable pub field_size : ℕ → ℕ
+field_size t = if t == 19 then 2 else 1
+
+-- the value of a signed field of 16 bits, from its two octets
+abbrev pub signed_16 : List ℕ → ℤ
+signed_16 octets = cast_signed w16 (from_be_bytes w16 octets)
+
+-- The reason for which the data of a group is refused, where a table refuses it: a lateral threshold of 0, a
+-- vertical rate threshold of 0, a floor that is not below the ceiling, a projection time of 0.
+unfoldable pub value_reason : ℕ → List ℕ → Option ℕ
+value_reason t octets =
+    if t == 10 then (if slice_index octets 0 == 0 then Some 13 else None)
+    else if t == 18 then (if slice_index octets 0 == 0 then Some 11 else None)
+    else if t == 19 then (if int_lt (signed_16 (drop 2 octets)) (signed_16 (take 2 octets)) then None else Some 10)
+    else if t == 21 then (if slice_index octets 1 == 0 then Some 12 else None)
+    else None
+
+-- the reason of a group that was already read: the reporting interval has a reason of its own
+unfoldable pub repeat_reason : ℕ → ℕ
+repeat_reason t = if t == 11 then 2 else 1

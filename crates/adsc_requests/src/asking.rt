@@ -1,0 +1,139 @@
+//! What is known of a request's groups, and one group more.
+
+ghost use Rattle.std.specs.Prelude.{◌≡◌, ◌<◌, ◌-◌, [], ◌∷◌, None, false, IsTrue, FitsSigned, slice_set, Some};
+ghost use Rattle.std.specs.Int.{w8};
+ghost use Rattle.adsc_requests.specs.Asking.{asked_groups};
+ghost use Rattle.adsc_requests.specs.Contents.{has_tag, put, single, octet_8, range_octets, intent_octets};
+ghost use Rattle.adsc_requests.specs.Tables.{is_modulus_tag};
+ghost use Rattle.adsc_requests.specs.Watching.{is_not_zero, is_watching};
+
+use crate::asked::Asked;
+use crate::message::{Intent, Moduli, Range};
+use crate::tags::{
+    FIRST_MODULUS, INTENT, INTERVAL, LAST_MODULUS, LATERAL, RANGE, VERTICAL_RATE, WAYPOINT,
+};
+
+impl Moduli {
+    /// No modulus.
+    fn none() -> Moduli
+        ensures { result.m ≡ None ∷ None ∷ None ∷ None ∷ None ∷ None ∷ [] }
+    {
+        Moduli { m: [None; 6] }
+    }
+
+    /// One modulus more.
+    fn with(self, place: usize, modulus: u8) -> Moduli
+        requires { place < 6 }
+        ensures { result.m ≡ slice_set self.m place (Some modulus) }
+    {
+        let mut m = self.m;
+        m[place] = Some(modulus);
+        Moduli { m }
+    }
+}
+
+impl Asked {
+    /// No group was read.
+    pub fn nothing() -> Asked
+        ensures { asked_groups result ≡ [] }
+    {
+        Asked {
+            lateral: None,
+            interval: None,
+            moduli: Moduli::none(),
+            vrate: None,
+            range: None,
+            waypoint: false,
+            intent: None,
+        }
+    }
+
+    /// Whether the group was read.
+    pub fn has(&self, tag: u8) -> bool
+        ensures { result ≡ has_tag tag (asked_groups self.now) }
+    {
+        match tag {
+            LATERAL => self.lateral.is_some(),
+            INTERVAL => self.interval.is_some(),
+            FIRST_MODULUS..=LAST_MODULUS => self.moduli.m[(tag - FIRST_MODULUS) as usize].is_some(),
+            VERTICAL_RATE => self.vrate.is_some(),
+            RANGE => self.range.is_some(),
+            WAYPOINT => self.waypoint,
+            INTENT => self.intent.is_some(),
+            _ => false,
+        }
+    }
+
+    /// Whether a group of an event request was read.
+    pub fn watches(&self) -> bool
+        ensures { result ≡ is_watching self.now.lateral self.now.vrate self.now.range self.now.waypoint }
+    {
+        self.lateral.is_some() || self.vrate.is_some() || self.range.is_some() || self.waypoint
+    }
+
+    pub fn with_lateral(self, threshold: u8) -> Asked
+        requires above_0 { 0 < threshold }
+        requires new { has_tag 10 (asked_groups self) ≡ false }
+        ensures { asked_groups result ≡ put (record { tag = 10; octets = single threshold }) (asked_groups self) }
+    {
+        let mut asked = self;
+        asked.lateral = Some(threshold);
+        asked
+    }
+
+    pub fn with_interval(self, octet: u8) -> Asked
+        requires { has_tag 11 (asked_groups self) ≡ false }
+        ensures { asked_groups result ≡ put (record { tag = 11; octets = single octet }) (asked_groups self) }
+    {
+        let mut asked = self;
+        asked.interval = Some(octet);
+        asked
+    }
+
+    pub fn with_modulus(self, tag: u8, modulus: u8) -> Asked
+        requires tag { IsTrue (is_modulus_tag tag) }
+        requires new { has_tag tag (asked_groups self) ≡ false }
+        ensures { asked_groups result ≡ put (record { tag = tag; octets = single modulus }) (asked_groups self) }
+    {
+        let mut asked = self;
+        asked.moduli = self.moduli.with((tag - FIRST_MODULUS) as usize, modulus);
+        asked
+    }
+
+    pub fn with_vrate(self, threshold: i8) -> Asked
+        requires not_0 { IsTrue (is_not_zero threshold) }
+        requires new { has_tag 18 (asked_groups self) ≡ false }
+        ensures { asked_groups result ≡ put (record { tag = 18; octets = octet_8 threshold }) (asked_groups self) }
+    {
+        let mut asked = self;
+        asked.vrate = Some(threshold);
+        asked
+    }
+
+    pub fn with_range(self, range: Range) -> Asked
+        requires { has_tag 19 (asked_groups self) ≡ false }
+        ensures { asked_groups result ≡ put (record { tag = 19; octets = range_octets range }) (asked_groups self) }
+    {
+        let mut asked = self;
+        asked.range = Some(range);
+        asked
+    }
+
+    pub fn with_waypoint(self) -> Asked
+        requires { has_tag 20 (asked_groups self) ≡ false }
+        ensures { asked_groups result ≡ put (record { tag = 20; octets = [] }) (asked_groups self) }
+    {
+        let mut asked = self;
+        asked.waypoint = true;
+        asked
+    }
+
+    pub fn with_intent(self, intent: Intent) -> Asked
+        requires { has_tag 21 (asked_groups self) ≡ false }
+        ensures { asked_groups result ≡ put (record { tag = 21; octets = intent_octets intent }) (asked_groups self) }
+    {
+        let mut asked = self;
+        asked.intent = Some(intent);
+        asked
+    }
+}
