@@ -4,6 +4,7 @@ pub mod FieldsLaws
 pub mod HeadLaws
 pub mod JournalLaws
 pub mod ListLemmas
+pub mod OneOutput
 pub mod OptionLemmas
 pub mod OutputLaws
 pub mod ScriptLaws

@@ -25,12 +25,12 @@ same_address : (line address address' : List ℕ) → IsGroundLine line address 
 same_address line address address' is is' = ap (drop 2) (sym is.spelled ∙ is'.spelled)
 
 -- what two readings of the first lines agree on
-record Agree (setting setting' : Setting) (others others' : List (List ℕ)) : Type 0 where
-  registration : setting.registration ≡ setting'.registration
-  address : address_of setting 0 ≡ address_of setting' 0
-  rest : others ≡ others'
+pub record Agree (setting setting' : Setting) (others others' : List (List ℕ)) : Type 0 where
+  pub registration : setting.registration ≡ setting'.registration
+  pub address : address_of setting 0 ≡ address_of setting' 0
+  pub rest : others ≡ others'
 
-agree : (lines others others' : List (List ℕ)) (setting setting' : Setting) → IsHead lines setting others → IsHead lines setting' others' → Agree setting setting' others others'
+pub agree : (lines others others' : List (List ℕ)) (setting setting' : Setting) → IsHead lines setting others → IsHead lines setting' others' → Agree setting setting' others others'
 agree lines others others' setting setting' is is' =
     let same = head-lines lines others' others is.aircraft is.ground zero_sample_line setting' is.joined is' in
     let first = subst (λ line. IsAircraftLine line setting.registration setting.flight setting.airframe) same.0 is.is_aircraft in

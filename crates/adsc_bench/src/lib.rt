@@ -14,6 +14,7 @@ mod demand_lines;
 mod demands;
 mod fields;
 mod head;
+mod laws;
 mod output;
 mod run;
 mod script;
@@ -24,4 +25,5 @@ mod uplinks;
 mod words;
 
 pub use bench::top;
+pub use laws::an_input_has_one_output;
 pub use status::Status;

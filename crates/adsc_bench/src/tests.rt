@@ -21,7 +21,7 @@ fn scripts_are_run(rt: HostRuntime) -> Result<(), Fail> {
     let alloc = rt.alloc();
     let words = words_of(alloc, &["run", "1"])?;
     let demand = "U,/AKLCDYA.ADS.N123450701BD4F\n";
-    let table: [(&str, &str, Status, &str); 12] = [
+    let table: [(&str, &str, Status, &str); 13] = [
         (HEAD, "", Status::Done, "J\nL,AKLCDYA,none\nOK\n"),
         (
             HEAD,
@@ -35,7 +35,7 @@ fn scripts_are_run(rt: HostRuntime) -> Result<(), Fail> {
             Status::Done,
             "J,4,5\nL,AKLCDYA,none\nD,/AKLCDYA.ADS.N12345030107000000000000000000007E26\nD,/AKLCDYA.ADS.N1234503FF070000000000000000000040A1\nOK\n",
         ),
-        // A check that isn't the one that is due, a payload that is no demand, another address, another letter.
+        // A check that isn't the one that is due, a payload that is no demand, another address, an AFN text, another letter.
         (
             HEAD,
             "U,/AKLCDYA.ADS.N123450701BD4E\n",
@@ -51,6 +51,12 @@ fn scripts_are_run(rt: HostRuntime) -> Result<(), Fail> {
         (
             HEAD,
             "U,/NFFNDYA.ADS.N123450701BD4F\n",
+            Status::NotBuilt,
+            "",
+        ),
+        (
+            HEAD,
+            "U,/AKLCDYA.AFN/FMHANZ1,.N12345/FAK0/FARADS,05087\n",
             Status::NotBuilt,
             "",
         ),

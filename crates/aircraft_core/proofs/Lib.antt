@@ -1,2 +1,3 @@
+pub mod AnswersLaws
 pub mod DownlinksLaws
 pub mod LinesOfDownlinks

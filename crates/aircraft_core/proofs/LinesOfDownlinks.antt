@@ -1,16 +1,9 @@
 -- The lines of an outbox are the texts of its downlinks, since no text has a newline.
-use Rattle.std.proofs.Common.{◌≡◌, ℕ, zero, suc, ◌==◌, Bool, true, false, cond, ◌*◌, List, [], ◌∷◌, length, map, eqb-true, subst, sym, ap, refl, arith}
+use Rattle.std.proofs.Common.{◌≡◌, ℕ, ◌==◌, Bool, true, false, cond, List, [], ◌∷◌, map, eqb-true, subst, sym, ap, refl}
 use Rattle.std.specs.List.{All}
 use Rattle.std.proofs.lemmas.List.Elements.{All-nil, All-cons}
-use Rattle.bit_terms.proofs.OctetsLaws.{number_of-lt}
-use Rattle.adsc_bits.specs.Packing.{octets_of}
-use Rattle.hex.specs.Hex.{IsBytes}
 use Rattle.adsc_io.specs.Lines.{script_lines, IsUnbroken}
 use Rattle.adsc_io.proofs.LinesLaws.{script_lines-ended}
-use Rattle.std.proofs.lemmas.List.{length-append}
-use Rattle.bit_terms.proofs.BitsLaws.{length-unsigned_bits}
-use Rattle.adsc_groups.specs.Basic.{BasicData, basic_bits}
-use Rattle.flight_samples.specs.declared.sample.Sample.{Sample}
 use Rattle.acars_envelope.specs.declared.texts.Body.{Body}
 use Rattle.acars_envelope.specs.declared.texts.Body.TheVariants.{Ads}
 use Rattle.acars_envelope.specs.Bodies.{is_body_size, is_well_formed}
@@ -18,32 +11,10 @@ use Rattle.acars_envelope.specs.Names.{IsAddress, IsRegistration}
 use Rattle.acars_envelope.proofs.PrintableLaws.{sealed_text_has_no_newline}
 use Rattle.aircraft_core.specs.declared.entry.Entry.{Entry}
 use Rattle.aircraft_core.specs.Entries.{link_of, payload_of, demand_number}
-use Rattle.aircraft_core.specs.Downlinks.{answer_bits, answer_octets, downlink_text, downlink_texts, downlinks_of, own_entries}
+use Rattle.adsc_downlink.specs.Items.{downlink_bits}
+use Rattle.aircraft_core.proofs.AnswersLaws.{length-answer_octets, octets_of-bytes}
+use Rattle.aircraft_core.specs.Downlinks.{answer_items, answer_octets, downlink_text, downlink_texts, downlinks_of, own_entries}
 use Rattle.aircraft_core.specs.Setting.{Setting, address_of}
-
--- what bits spell are octets
-octets_of-bytes : (bits : List Bool) → IsBytes (octets_of bits)
-unfolding octets_of
-octets_of-bytes (a ∷ b ∷ c ∷ d ∷ e ∷ f ∷ g ∷ h ∷ rest) zero = number_of-lt (a ∷ b ∷ c ∷ d ∷ e ∷ f ∷ g ∷ h ∷ [])
-octets_of-bytes (a ∷ b ∷ c ∷ d ∷ e ∷ f ∷ g ∷ h ∷ rest) (suc i) = octets_of-bytes rest i
-octets_of-bytes _ i = omega arith
-
--- how many octets so many bits spell
-length-octets_of : (bits : List Bool) (count : ℕ) → length bits ≡ 8 * count → length (octets_of bits) ≡ count
-unfolding octets_of
-length-octets_of (a ∷ b ∷ c ∷ d ∷ e ∷ f ∷ g ∷ h ∷ rest) zero size = absurd (omega arith)
-length-octets_of (a ∷ b ∷ c ∷ d ∷ e ∷ f ∷ g ∷ h ∷ rest) (suc count) size = ap suc (length-octets_of rest count (omega arith))
-length-octets_of _ count size = omega arith
-
--- the basic data has ten octets
-length-basic_bits : (basic : BasicData) → length (basic_bits basic) ≡ 80
-unfolding basic_bits
-length-basic_bits basic = simp (length-append, length-unsigned_bits) refl
-
--- an answer has thirteen octets
-length-answer_octets : (number : ℕ) (sample : Sample) → length (answer_octets number sample) ≡ 13
-length-answer_octets number sample =
-    length-octets_of (answer_bits number sample) 13 (simp (length-append, length-unsigned_bits, length-basic_bits) refl)
 
 -- no newline is in the downlink of an entry
 text-unbroken : (setting : Setting) (link : ℕ) (entry : Entry) → IsAddress (address_of setting link) → IsRegistration setting.registration → (link_of entry == link) ≡ true
@@ -53,7 +24,7 @@ text-unbroken setting link entry is_address is_registration own =
     let body : Body = Ads setting.registration (record { items = answer_octets number setting.first }) in
     let here : IsAddress (address_of setting (link_of entry)) = subst (λ l. IsAddress (address_of setting l)) (sym (eqb-true (link_of entry) link own)) is_address in
     let sized : is_well_formed body ≡ true = ap is_body_size (length-answer_octets number setting.first) in
-    sealed_text_has_no_newline (address_of setting (link_of entry)) body here (is_registration, octets_of-bytes (answer_bits number setting.first)) sized
+    sealed_text_has_no_newline (address_of setting (link_of entry)) body here (is_registration, octets_of-bytes (downlink_bits (answer_items number setting.first))) sized
 
 -- nor in those of all entries of a link
 texts-unbroken : (setting : Setting) (link : ℕ) (journal : List Entry) → IsAddress (address_of setting link) → IsRegistration setting.registration

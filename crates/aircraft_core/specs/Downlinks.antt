@@ -1,10 +1,10 @@
 -- The downlinks that the entries of a journal make due.
 -- The items and their tags are those of RTCA DO-258A / EUROCAE ED-100A; that one entry makes one text is this project's profile.
-use Rattle.std.specs.Prelude.{ℕ, ◌==◌, Bool, List, [], ◌∷◌, ◌++◌, map}
+use Rattle.std.specs.Prelude.{ℕ, ◌==◌, List, [], ◌∷◌, ◌++◌, map}
 use Rattle.std.specs.List.{filter}
-use Rattle.bit_terms.specs.Bits.{unsigned_bits}
 use Rattle.adsc_bits.specs.Packing.{octets_of}
-use Rattle.adsc_groups.specs.Basic.{basic_bits}
+use Rattle.adsc_downlink.specs.Items.{ItemData, downlink_bits}
+use Rattle.adsc_downlink.specs.Items.ItemData.{ack, report}
 use Rattle.acars_envelope.specs.declared.texts.Body.TheVariants.{Ads}
 use Rattle.acars_envelope.specs.Texts.{sealed_text}
 use Rattle.flight_samples.specs.declared.sample.Sample.{Sample}
@@ -14,15 +14,14 @@ use Rattle.aircraft_core.specs.Entries.{link_of, payload_of, demand_number}
 use Rattle.aircraft_core.specs.Reports.{basic_data_of}
 use Rattle.aircraft_core.specs.Setting.{Setting, address_of}
 
--- The answer to a demand: an acknowledgement, which is the tag 3 and the demand's number, and then a basic report, which
--- is the tag 7 and the basic data of the sample.
-abbrev pub answer_bits : ℕ → Sample → List Bool
-answer_bits number sample =
-    unsigned_bits 8 3 ++ unsigned_bits 8 number ++ unsigned_bits 8 7 ++ basic_bits (basic_data_of sample)
+-- The answer to a demand: an acknowledgement of its number, and then a basic report on the sample, without groups.
+abbrev pub answer_items : ℕ → Sample → List ItemData
+answer_items number sample =
+    ack number ∷ report (record { tag = 7; basic = basic_data_of sample; groups = [] }) ∷ []
 
--- the octets of that answer
+-- the octets of that answer, in which padding is zeros
 abbrev pub answer_octets : ℕ → Sample → List ℕ
-answer_octets number sample = octets_of (answer_bits number sample)
+answer_octets number sample = octets_of (downlink_bits (answer_items number sample))
 
 -- the downlink that a demand makes due: its answer in an envelope of the aircraft, to the ground address of its link
 abbrev pub downlink_text : Setting → Entry → List ℕ

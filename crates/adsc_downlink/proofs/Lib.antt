@@ -1,0 +1,13 @@
+pub mod Canonical
+pub mod Decoded
+pub mod DownlinkFaults
+pub mod DownlinkReading
+pub mod GroupReading
+pub mod ItemFaults
+pub mod ItemReading
+pub mod Lists
+pub mod OctetLaws
+pub mod OneReading
+pub mod ReportReading
+pub mod Sizes
+pub mod Stepping

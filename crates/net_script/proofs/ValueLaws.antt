@@ -1,0 +1,156 @@
+-- A line says one thing.
+use Rattle.std.proofs.Common.{◌≡◌, ◌^◌, ◌<◌, ◌==◌, ℕ, ℤ, pos, Bool, true, false, Option, Some, None, List, [], ◌∷◌, length, drop, get_or, refl, sym, ap, ◌∙◌, subst, arith}
+use Rattle.std.specs.Prelude.{codes, if◌then◌else◌}
+use Rattle.std.specs.Int.{to_be_bytes, w32}
+use Rattle.std.proofs.lemmas.List.{same_lists, get_or_default}
+use Rattle.acars_envelope.proofs.DigitsLaws.{same_octets}
+use Rattle.adsc_requests.specs.Contents.{contents_of}
+use Rattle.adsc_requests.specs.Grammar.{EncodesUplink}
+use Rattle.adsc_requests.specs.declared.kind.Kind.TheVariants.{Demand, Periodic, Event, Emergency}
+use Rattle.adsc_requests.specs.declared.message.Message.{Message}
+use Rattle.adsc_requests.specs.declared.message.Uplink.{Uplink}
+use Rattle.adsc_requests.proofs.Injective.{same_contents}
+use Rattle.adsc_requests.proofs.ReadingLaws.{one_reading}
+use Rattle.flight_samples.specs.SampleText.{AreSampleValues, column_count}
+use Rattle.flight_samples.specs.Samples.{values_of}
+use Rattle.flight_samples.specs.declared.sample.Sample.{Sample}
+use Rattle.flight_samples.proofs.DecimalLemmas.{integer_text_same}
+use Rattle.net_script.specs.Fields.{field_at, fields_of}
+use Rattle.net_script.specs.Forms.{IsCancelText, IsNumberOf, IsRequestText, six_digits}
+use Rattle.net_script.specs.Lines.{IsAddressed, IsSameValue, IsScriptLine, Says, letter_of}
+use Rattle.net_script.specs.declared.limits.TheConstants.{MAX_TIME, MAX_PLACE}
+use Rattle.net_script.specs.declared.line.Cancel.{Cancel}
+use Rattle.net_script.specs.declared.line.Cancel.TheVariants.{Of, EmergencyMode, All}
+use Rattle.net_script.specs.declared.line.ScriptLine.{ScriptLine}
+use Rattle.net_script.specs.declared.line.ScriptLine.TheVariants as line
+use Rattle.aircraft_core.specs.declared.who.Who.{Who}
+use Rattle.net_script.proofs.CleanLaws.{three_octets}
+use Rattle.net_script.proofs.LineLaws.{letter_same, some_same}
+
+-- ---- values by their texts
+
+-- an address of 24 bits is told by its digits
+airframe_same : (a b : ℕ) → a < 2 ^ 24 → b < 2 ^ 24 → six_digits a ≡ six_digits b → a ≡ b
+airframe_same a b small_a small_b same =
+    let octets = same_octets (drop 1 (to_be_bytes w32 a)) (drop 1 (to_be_bytes w32 b)) (three_octets a) (three_octets b) same in
+    omega (arith, ap (λ xs. get_or xs 0 0) octets, ap (λ xs. get_or xs 1 0) octets, ap (λ xs. get_or xs 2 0) octets)
+
+-- a number is told by its text
+number_same : (low high m n : ℕ) (text : List ℕ) → IsNumberOf low high m text → IsNumberOf low high n text → m ≡ n
+number_same low high m n text one other = sym one.written.value ∙ other.written.value
+
+-- the values of a sample are told by their columns
+values_same : (columns : List (List ℕ)) (ys zs : List ℤ) → AreSampleValues columns ys → AreSampleValues columns zs → ys ≡ zs
+values_same columns ys zs one other =
+    same_lists ys zs (one.value_count ∙ sym other.value_count) (λ k d within.
+    let place : k < column_count = omega (arith, one.value_count) in
+    let inside : k < length zs = omega (arith, other.value_count) in
+    get_or_default ys k d (pos 0) within
+    ∙ integer_text_same _ _ (get_or columns k []) (one.each k place).written.written (other.each k place).written.written
+    ∙ get_or_default zs k (pos 0) d inside)
+
+-- a switch is told by its text
+switch_same : (a b : Bool) (text : List ℕ) → text ≡ (if a then codes "1" else codes "0") → text ≡ (if b then codes "1" else codes "0") → a ≡ b
+switch_same true true text one other = refl
+switch_same false false text one other = refl
+switch_same true false text one other = absurd (omega (arith, ap (λ xs. get_or xs 0 0) (sym one ∙ other)))
+switch_same false true text one other = absurd (omega (arith, ap (λ xs. get_or xs 0 0) (sym one ∙ other)))
+
+-- the cancel that a letter names
+cancel_named : ℕ → Option Cancel
+cancel_named c =
+    if c == 80 then Some (Of Periodic) else if c == 86 then Some (Of Event) else if c == 77 then Some (Of Emergency)
+    else if c == 88 then Some EmergencyMode else if c == 65 then Some All else None
+
+named : (cancel : Cancel) (text : List ℕ) → IsCancelText cancel text → cancel_named (get_or text 0 0) ≡ Some cancel
+unfolding cancel_named
+named (Of Demand) text is = absurd is
+named (Of Periodic) text is = rw is refl
+named (Of Event) text is = rw is refl
+named (Of Emergency) text is = rw is refl
+named EmergencyMode text is = rw is refl
+named All text is = rw is refl
+
+-- a cancel is told by its text
+cancel_same : (a b : Cancel) (text : List ℕ) → IsCancelText a text → IsCancelText b text → a ≡ b
+cancel_same a b text one other = some_same a b (sym (named a text one) ∙ named b text other)
+
+-- the one message of an uplink
+sole_same : (a b : Message) (xs : List Message) → xs ≡ a ∷ [] → xs ≡ b ∷ [] → a ≡ b
+sole_same a b xs one other = cc
+
+-- a request is told by its text
+request_same : (a b : Message) (text : List ℕ) → IsRequestText a text → IsRequestText b text → a ≡ b
+request_same a b text one other =
+    let octets = same_octets one.octets other.octets one.bytes other.bytes (sym one.digits ∙ other.digits) in
+    let contents = one_reading other.octets (contents_of one.uplink) (contents_of other.uplink) (subst (EncodesUplink one.uplink) octets one.encoding) other.encoding in
+    let uplink = same_contents one.uplink other.uplink contents in
+    sole_same a b one.uplink.messages.items one.sole (ap (λ (u : Uplink). u.messages.items) uplink ∙ other.sole)
+
+-- ---- lines by their fields
+
+address_same : (fields : List (List ℕ)) (a b : List ℕ) → IsAddressed fields a → IsAddressed fields b → a ≡ b
+address_same fields a b one other = sym one.written ∙ other.written
+
+-- the fields of a line of one letter say one thing
+abbrev SaysOne : ScriptLine → Type 0
+SaysOne value = (other : ScriptLine) (fields : List (List ℕ)) → letter_of other ≡ letter_of value → Says value fields → Says other fields → IsSameValue value other
+
+one_aircraft : (who : Who) → SaysOne (line.A who)
+one_aircraft who (line.A other) fields same one two = (one.dotted ∙ sym two.dotted, sym one.flight_written ∙ two.flight_written, airframe_same who.airframe other.airframe one.is_airframe two.is_airframe (sym one.airframe_written ∙ two.airframe_written))
+one_aircraft who other fields same one two = absurd (cc)
+
+one_sample : (sample : Sample) → SaysOne (line.S sample)
+one_sample sample (line.S other) fields same one two = values_same (drop 1 fields) (values_of sample) (values_of other) one two
+one_sample sample other fields same one two = absurd (cc)
+
+one_time : (time : ℕ) → SaysOne (line.T time)
+one_time time (line.T other) fields same one two = number_same 0 MAX_TIME time other (field_at fields 1) one two
+one_time time other fields same one two = absurd (cc)
+
+one_emergency : (on : Bool) → SaysOne (line.E on)
+one_emergency on (line.E other) fields same one two = switch_same on other (field_at fields 1) one two
+one_emergency on other fields same one two = absurd (cc)
+
+one_logon : (address : List ℕ) → SaysOne (line.L address)
+one_logon address (line.L other) fields same one two = address_same fields address other one two
+one_logon address other fields same one two = absurd (cc)
+
+one_uplink : (from : ℕ) → SaysOne (line.U from)
+one_uplink from (line.U other) fields same one two = one ∙ sym two
+one_uplink from other fields same one two = absurd (cc)
+
+one_request : (address : List ℕ) (asked : Message) → SaysOne (line.C address asked)
+one_request address asked (line.C other next) fields same one two = (address_same fields address other one.0 two.0, request_same asked next (field_at fields 2) one.1 two.1)
+one_request address asked other fields same one two = absurd (cc)
+
+one_cancel : (address : List ℕ) (cancel : Cancel) → SaysOne (line.K address cancel)
+one_cancel address cancel (line.K other next) fields same one two = (address_same fields address other one.0 two.0, cancel_same cancel next (field_at fields 2) one.1 two.1)
+one_cancel address cancel other fields same one two = absurd (cc)
+
+one_bring : (address : List ℕ) (place : ℕ) → SaysOne (line.B address place)
+one_bring address place (line.B other next) fields same one two = (address_same fields address other one.0 two.0, number_same 1 MAX_PLACE place next (field_at fields 2) one.1 two.1)
+one_bring address place other fields same one two = absurd (cc)
+
+one_receive : (address : List ℕ) (place : ℕ) → SaysOne (line.R address place)
+one_receive address place (line.R other next) fields same one two = (address_same fields address other one.0 two.0, number_same 1 MAX_PLACE place next (field_at fields 2) one.1 two.1)
+one_receive address place other fields same one two = absurd (cc)
+
+says_one : (value : ScriptLine) → SaysOne value
+says_one (line.A who) other fields same one two = one_aircraft who other fields same one two
+says_one (line.G addresses) (line.G other) fields same one two = sym one.written ∙ two.written
+says_one (line.G addresses) other fields same one two = absurd (cc)
+says_one (line.S sample) other fields same one two = one_sample sample other fields same one two
+says_one (line.T time) other fields same one two = one_time time other fields same one two
+says_one (line.E on) other fields same one two = one_emergency on other fields same one two
+says_one (line.L address) other fields same one two = one_logon address other fields same one two
+says_one (line.U from) other fields same one two = one_uplink from other fields same one two
+says_one (line.C address asked) other fields same one two = one_request address asked other fields same one two
+says_one (line.K address cancel) other fields same one two = one_cancel address cancel other fields same one two
+says_one (line.B address place) other fields same one two = one_bring address place other fields same one two
+says_one (line.R address place) other fields same one two = one_receive address place other fields same one two
+
+-- a line says one thing
+pub one_value : (bytes : List ℕ) (a b : ScriptLine) → IsScriptLine a bytes → IsScriptLine b bytes → IsSameValue a b
+one_value bytes a b one other =
+    says_one a b (fields_of bytes) (letter_same bytes (letter_of b) (letter_of a) other.letter one.letter) one.says other.says

@@ -1,0 +1,69 @@
+//! The fields of a line: the pieces between its commas.
+
+ghost use Rattle.std.specs.Prelude.{◌≡◌, ◌≢◌, ℕ, ◌+◌, ◌<◌, ◌≤◌, ◌∷◌, ◌++◌, length, slice_index, count_by, ◌==◌, IfSome, IfNone};
+ghost use Rattle.net_script.specs.Fields.{comma, field_at, fields_of};
+
+/// How many commas the line has: one less than it has fields.
+pub(crate) fn comma_count(line: &[u8]) -> usize
+    ensures fields { length (fields_of line.now) ≡ result + 1 }
+    ensures within { result ≤ length line.now }
+{
+    count_commas(line)
+}
+
+fn count_commas(line: &[u8]) -> usize
+    ensures commas { result ≡ count_by (λ byte. byte == comma) line.now }
+    ensures within { result ≤ length line.now }
+{
+    line.iter().filter(|byte| **byte == b',').count()
+}
+
+/// The field at the place, counted from 0; it is empty where the line has none there.
+pub(crate) fn field_at(line: &[u8], place: usize) -> &[u8]
+    ensures { result.now ≡ field_at (fields_of line.now) place }
+{
+    let mut rest = line;
+    let mut left = place;
+    while left > 0 {
+        match behind_comma(rest) {
+            Some(behind) => rest = behind,
+            None => return &[],
+        }
+        left -= 1;
+    }
+    first_field(rest)
+}
+
+/// What stands behind the first comma.
+pub(crate) fn behind_comma(text: &[u8]) -> Option<&[u8]>
+    ensures joined { IfSome result (λ rest. text.now ≡ field_at (fields_of text.now) 0 ++ comma ∷ rest.now) }
+    ensures some { IfSome result (λ rest. fields_of text.now ≡ field_at (fields_of text.now) 0 ∷ fields_of rest.now) }
+    ensures none { IfNone result (length (fields_of text.now) ≡ 1) }
+{
+    let end = field_length(text);
+    if end == text.len() {
+        return None;
+    }
+    Some(&text[end + 1..])
+}
+
+/// What stands before the first comma, or all where there is none.
+fn first_field(text: &[u8]) -> &[u8]
+    ensures { result.now ≡ field_at (fields_of text.now) 0 }
+{
+    &text[..field_length(text)]
+}
+
+/// The place of the first comma, or the number of bytes where there is none.
+fn field_length(text: &[u8]) -> usize
+    ensures within { result ≤ length text.now }
+    ensures unbroken { (k : ℕ) → k < result → slice_index text.now k ≢ comma }
+    ensures ended { result < length text.now → slice_index text.now result ≡ comma }
+{
+    for (place, byte) in text.iter().enumerate() {
+        if *byte == b',' {
+            return place;
+        }
+    }
+    text.len()
+}

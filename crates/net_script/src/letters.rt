@@ -1,0 +1,41 @@
+//! The letter that begins a line.
+
+ghost use Rattle.std.specs.Prelude.{◌≡◌, ◌≢◌, ◌<◌, IfSome, IfNone};
+ghost use Rattle.net_script.specs.Fields.{field_at, fields_of};
+ghost use Rattle.net_script.specs.Letters.{letter_code, letter_text};
+ghost use Rattle.net_script.specs.declared.letter.Letter.{Letter as LetterValue};
+
+use crate::fields::field_at;
+use crate::letter::Letter;
+
+/// The letter that is the line's field 0, or None where that field is none.
+pub(crate) fn letter_of(line: &[u8]) -> Option<Letter>
+    ensures some { IfSome result (λ letter. field_at (fields_of line.now) 0 ≡ letter_text letter) }
+    ensures none { IfNone result ((letter : LetterValue) → field_at (fields_of line.now) 0 ≢ letter_text letter) }
+{
+    let [byte] = field_at(line, 0) else {
+        return None;
+    };
+    letter_from(*byte)
+}
+
+/// The letter that the byte is.
+fn letter_from(byte: u8) -> Option<Letter>
+    ensures some { IfSome result (λ letter. byte ≡ letter_code letter) }
+    ensures none { IfNone result ((letter : LetterValue) → byte ≢ letter_code letter) }
+{
+    match byte {
+        b'A' => Some(Letter::Aircraft),
+        b'G' => Some(Letter::Ground),
+        b'S' => Some(Letter::Sample),
+        b'T' => Some(Letter::Time),
+        b'E' => Some(Letter::Emergency),
+        b'L' => Some(Letter::Logon),
+        b'U' => Some(Letter::Uplink),
+        b'C' => Some(Letter::Request),
+        b'K' => Some(Letter::Cancel),
+        b'B' => Some(Letter::Bring),
+        b'R' => Some(Letter::Receive),
+        _ => None,
+    }
+}
