@@ -8,4 +8,5 @@ pub mod OneOutput
 pub mod OptionLemmas
 pub mod OutputLaws
 pub mod ScriptLaws
+pub mod ShowingLaws
 pub mod UplinksLaws

@@ -7,3 +7,9 @@ two_items [] a b least most first second = absurd (omega arith)
 two_items (x ∷ []) a b least most first second = absurd (omega arith)
 two_items (x ∷ y ∷ []) a b least most first second = cc
 two_items (x ∷ y ∷ z ∷ xs) a b least most first second = absurd (omega arith)
+
+-- a list of one is its one item
+pub one_item : {X : Type 0} (xs : List X) (a : X) → 1 ≤ length xs → length xs < 2 → a ≡ get_or xs 0 a → xs ≡ a ∷ []
+one_item [] a least most first = absurd (omega arith)
+one_item (x ∷ []) a least most first = cc
+one_item (x ∷ y ∷ xs) a least most first = absurd (omega arith)

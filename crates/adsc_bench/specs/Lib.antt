@@ -1,7 +1,9 @@
 pub mod Fields
 pub mod Heads
 pub mod Lines
+pub mod Outcomes
 pub mod Output
 pub mod Script
+pub mod Showing
 pub mod Statuses
 pub mod Words

@@ -1,10 +1,12 @@
 //! The bench: all that the program does, over any source and any sink.
 //!
-//! `top` takes the words of the command line, reads a script from the source, runs it against an aircraft, and writes what
-//! the aircraft answered to the sink; its clauses say what was written, and when each status may come. The program
-//! `bench_program` stands above it and hands in the real input and output. Today it runs scripts of one form: one aircraft,
-//! one ground address, a first sample whose columns are all 0, and demands.
-//! Begin with `specs/Script.antt`, which says what a script of that form is and what its output is, and then `bench`.
+//! `top` takes the words of the command line. On `run 1` it reads a script from the source, runs it against an aircraft, and
+//! writes what the aircraft answered to the sink; on `show` it reads texts, and writes what they say. Its clauses say what was
+//! written, and when each status may come. The program `bench_program` stands above it and hands in the real input and output.
+//! Today it runs scripts of one form: one aircraft, one ground address, a first sample whose columns are all 0, and demands;
+//! and it shows downlinks of the application ADS.
+//! Begin with `specs/Script.antt`, which says what a script of that form is and what its output is, or with
+//! `specs/Showing.antt`, which says what is shown; then read `bench`.
 #![tactic(auto)]
 
 mod airframe;
@@ -18,6 +20,7 @@ mod laws;
 mod output;
 mod run;
 mod script;
+mod showing;
 mod status;
 #[cfg(test)]
 mod tests;
@@ -26,4 +29,5 @@ mod words;
 
 pub use bench::top;
 pub use laws::an_input_has_one_output;
+pub use showing::show;
 pub use status::Status;

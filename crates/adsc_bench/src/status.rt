@@ -7,14 +7,19 @@ ghost use Rattle.adsc_bench.specs.Statuses.{status_number};
 pub enum Status {
     /// The whole input was read and the whole output written.
     Done = 0,
+    /// `show` read the whole input and wrote the whole shown text, and some line is refused.
+    Refused = 1,
     /// The words of the command line have no listed form. Nothing was read or written.
     Words = 2,
-    /// The input could not be read. Nothing was written.
+    /// The input could not be read. `run` wrote nothing, and `show` the shown text of the lines that were wholly read, where all of
+    /// them are of forms that are built.
     ReadFault = 3,
     /// The output could not be written. A beginning of it was.
     WriteFault = 4,
     /// There was not enough memory. Nothing was written.
     NoMemory = 6,
+    /// `show` met the limit of lines or bytes, and wrote the shown text of the lines before.
+    Limit = 7,
     /// The input is of a form that is not built yet. Nothing was written.
     NotBuilt = 8,
 }

@@ -1,4 +1,4 @@
-// Whole runs over sources and sinks in memory. The texts were made by another program, from the tables of the formats.
+// Whole runs and showings over sources and sinks in memory. The texts were made by another program, from the tables of the formats.
 use super::*;
 use adsc_io::{MemSink, MemSource};
 use std::alloc::Global;
@@ -148,5 +148,98 @@ fn faults_end_a_run(rt: HostRuntime) -> Result<(), Fail> {
     );
     assert_eq!(rt; sink.faults(), 1);
     assert_eq!(rt; sink.written(), b"J".as_slice());
+    Ok(())
+}
+
+#[test]
+fn texts_are_shown(rt: HostRuntime) -> Result<(), Fail> {
+    let alloc = rt.alloc();
+    let words = words_of(alloc, &["show"])?;
+    let table: [(&str, Status, &str); 5] = [
+        (
+            "D,/AKLCDYA.ADS.N12345030107000000000000000000007E26\nhello\n",
+            Status::Refused,
+            "line,1,D,AKLCDYA,ADS,.N12345\nack,1\nreport,7,0,0,0,0,0,0,0\nline,2,refused,FORM,0\nend,2,1\n",
+        ),
+        (
+            "D,/AKLCDYA.ADS.N123450301718B",
+            Status::Done,
+            "line,1,D,AKLCDYA,ADS,.N12345\nack,1\nend,1,0\n",
+        ),
+        ("", Status::Done, "end,0,0\n"),
+        (
+            "hello\nU,/AKLCDYA.ADS.N123450701BD4F\n",
+            Status::NotBuilt,
+            "",
+        ),
+        (
+            "D,/GRND001.AFN/FMHANZ1,.N12345/FAK0/FARADS,05087\n",
+            Status::NotBuilt,
+            "",
+        ),
+    ];
+    for (lines, status, output) in table {
+        let mut source = MemSource::new(alloc, lines.as_bytes(), 7, &[])?;
+        let mut sink = MemSink::new(alloc, 1_000, 5, &[])?;
+        assert_eq!(rt;
+            top(alloc, words.as_slice(), &mut source, &mut sink),
+            status,
+            "at {lines}"
+        );
+        assert_eq!(rt; sink.written(), output.as_bytes(), "at {lines}");
+    }
+    Ok(())
+}
+
+#[test]
+fn faults_end_a_showing(rt: HostRuntime) -> Result<(), Fail> {
+    let alloc = rt.alloc();
+    let table: [(&str, &str); 3] = [
+        (
+            "ab\ncd\nef",
+            "line,1,refused,FORM,0\nline,2,refused,FORM,0\n",
+        ),
+        ("U,\ncd\nef", ""),
+        ("abcdefgh", ""),
+    ];
+    for (lines, output) in table {
+        let mut source = MemSource::new(alloc, lines.as_bytes(), 7, &[2])?;
+        let mut sink = MemSink::new(alloc, 100, 100, &[])?;
+        assert_eq!(rt;
+            show(alloc, &mut source, &mut sink),
+            Status::ReadFault,
+            "at {lines}"
+        );
+        assert_eq!(rt; source.faults(), 1);
+        assert_eq!(rt; sink.written(), output.as_bytes(), "at {lines}");
+    }
+
+    let mut source = MemSource::new(alloc, b"ab\n", 100, &[])?;
+    let mut sink = MemSink::new(alloc, 100, 4, &[2])?;
+    assert_eq!(rt; show(alloc, &mut source, &mut sink), Status::WriteFault);
+    assert_eq!(rt; sink.faults(), 1);
+    assert_eq!(rt; sink.written(), b"line".as_slice());
+    Ok(())
+}
+
+#[test]
+fn the_limit_ends_a_showing(rt: HostRuntime) -> Result<(), Fail> {
+    let alloc = rt.alloc();
+    let mut lines = Vec::new(alloc);
+    for _ in 0..200_000 {
+        lines.extend_from_slice(b"x\n")?;
+    }
+    let table: [(&[u8], Status, &[u8]); 2] = [
+        (b"", Status::Refused, b"end,200000,200000\n"),
+        (b"U,", Status::Limit, b"line,200000,refused,FORM,0\n"),
+    ];
+    for (more, status, last) in table {
+        let mut input = lines.clone()?;
+        input.extend_from_slice(more)?;
+        let mut source = MemSource::new(alloc, input.as_slice(), 8_192, &[])?;
+        let mut sink = MemSink::new(alloc, 6_000_000, 6_000_000, &[])?;
+        assert_eq!(rt; show(alloc, &mut source, &mut sink), status);
+        assert!(rt; sink.written().ends_with(last));
+    }
     Ok(())
 }

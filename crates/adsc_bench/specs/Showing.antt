@@ -1,0 +1,71 @@
+-- What the command `show` promises (this project's profile).
+use Rattle.std.specs.Prelude.{◌≡◌, ◌⊎◌, ℕ, ◌<◌, List, IfSome}
+use Rattle.std.specs.declared.option.Option.{Option}
+use Rattle.std.specs.Io.KnownBytes.{Appends, Consumes, IsAtEnd}
+use Rattle.adsc_io.specs.Causes.{Rose}
+use Rattle.adsc_io.specs.Lines.{script_lines}
+use Rattle.adsc_io.specs.Writes.{AppendsPrefix}
+use Rattle.shown_lines.specs.Inputs.{IsOverLimit, first_lines, lines_before_limit, whole_lines}
+use Rattle.shown_lines.specs.Meanings.{HasRefused, HasUnbuilt}
+use Rattle.shown_lines.specs.Shown.{AreShown, IsShownWhole, IsShownCut}
+use Rattle.adsc_bench.specs.declared.status.Status.{Status}
+use Rattle.adsc_bench.specs.declared.status.Status.TheVariants.{Done, Refused, Words, ReadFault, WriteFault, NoMemory, Limit, NotBuilt}
+
+-- What a source and a sink tell: the bytes that are not yet read, how many reads failed, the bytes that were written, how many writes failed.
+pub record Seen : Type 0 where
+  pub left : Option (List ℕ)
+  pub read_faults : ℕ
+  pub written : Option (List ℕ)
+  pub write_faults : ℕ
+
+-- The text is the shown text of these bytes: within the limit with the line that ends it, and over the limit without.
+abbrev pub IsShownText : List ℕ → List ℕ → Type 0
+IsShownText bytes text = ((refused : ℕ) × IsShownWhole bytes text refused) ⊎ IsShownCut bytes text
+
+-- The text is the shown text of lines that were wholly read, before a read failed.
+abbrev pub IsShownBefore : List ℕ → List ℕ → Type 0
+IsShownBefore bytes text = (refused : ℕ) × AreShown (first_lines (whole_lines bytes)) text refused
+
+-- These bytes were read, and then a read failed.
+abbrev pub WereRead : Seen → Seen → List ℕ → Type 0
+WereRead before after bytes = Rose before.read_faults after.read_faults × Consumes before.left after.left bytes
+
+-- What each status promises, where `unwritten` says that the sink is as it was.
+abbrev pub Promises : Seen → Seen → Type 0 → Status → Type 0
+-- Done: the input was read to its end, its shown text was written, and no line is refused.
+Promises before after unwritten Done =
+    IfSome before.left (λ bytes. IsAtEnd after.left × ((text : List ℕ) × IsShownWhole bytes text 0 × Appends before.written after.written text))
+-- Refused: the same, and some line is refused.
+Promises before after unwritten Refused =
+    IfSome before.left (λ bytes. IsAtEnd after.left
+    × ((text : List ℕ) × (refused : ℕ) × (0 < refused) × IsShownWhole bytes text refused × Appends before.written after.written text))
+-- Words: never.
+Promises before after unwritten Words = ⊥
+-- ReadFault: a read failed, and the shown text of the lines wholly read before was written, or nothing where one of them is not built.
+Promises before after unwritten ReadFault = (bytes : List ℕ) × WereRead before after bytes
+    × (((text : List ℕ) × IsShownBefore bytes text × Appends before.written after.written text)
+    ⊎ (HasUnbuilt (first_lines (whole_lines bytes)) × unwritten))
+-- WriteFault: a write failed, and a beginning of the text that was due was written.
+Promises before after unwritten WriteFault = Rose before.write_faults after.write_faults
+    × (IfSome before.left (λ bytes. (text : List ℕ) × IsShownText bytes text × AppendsPrefix before.written after.written text)
+    ⊎ ((bytes : List ℕ) × WereRead before after bytes × ((text : List ℕ) × IsShownBefore bytes text × AppendsPrefix before.written after.written text)))
+-- NoMemory: nothing was written.
+Promises before after unwritten NoMemory = unwritten
+-- Limit: the limit is met, and the shown text of the lines before was written.
+Promises before after unwritten Limit =
+    IfSome before.left (λ bytes. (text : List ℕ) × IsShownCut bytes text × Appends before.written after.written text)
+-- NotBuilt: some line before the limit is not built, and nothing was written.
+Promises before after unwritten NotBuilt = IfSome before.left (λ bytes. HasUnbuilt (lines_before_limit bytes)) × unwritten
+
+-- The status is the one that the lines of the input say, or want of memory.
+pub record IsDueStatus (bytes : List ℕ) (status : Status) : Type 0 where
+  pub not_built : HasUnbuilt (lines_before_limit bytes) → (status ≡ NotBuilt) ⊎ (status ≡ NoMemory)
+  pub over : (HasUnbuilt (lines_before_limit bytes) → ⊥) → IsOverLimit bytes → (status ≡ Limit) ⊎ (status ≡ NoMemory)
+  pub refused : (HasUnbuilt (lines_before_limit bytes) → ⊥) → (IsOverLimit bytes → ⊥) → HasRefused (script_lines bytes) → (status ≡ Refused) ⊎ (status ≡ NoMemory)
+  pub done : (HasUnbuilt (lines_before_limit bytes) → ⊥) → (IsOverLimit bytes → ⊥) → (HasRefused (script_lines bytes) → ⊥) → (status ≡ Done) ⊎ (status ≡ NoMemory)
+
+-- What `show` promises: what its status promises, and where no fault comes, the status that is due.
+pub record Shows (before after : Seen) (unwritten : Type 0) (status : Status) : Type 0 where
+  pub promised : Promises before after unwritten status
+  pub due : (Rose before.read_faults after.read_faults → ⊥) → (Rose before.write_faults after.write_faults → ⊥)
+      → IfSome before.left (λ bytes. IsDueStatus bytes status)

@@ -1,0 +1,4 @@
+pub mod CountLaws
+pub mod InputLaws
+pub mod LineLaws
+pub mod ShownLaws
