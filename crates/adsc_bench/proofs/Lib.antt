@@ -5,6 +5,7 @@ pub mod HeadLaws
 pub mod JournalLaws
 pub mod ListLemmas
 pub mod OneOutput
+pub mod OneShownText
 pub mod OptionLemmas
 pub mod OutputLaws
 pub mod ScriptLaws

@@ -21,6 +21,17 @@ use Rattle.adsc_bench.specs.declared.status.Status.{Status}
 use Rattle.adsc_bench.specs.declared.status.Status.TheVariants.{Done, Refused, Words, ReadFault, WriteFault, NoMemory, Limit, NotBuilt}
 use Rattle.adsc_bench.proofs.BenchLaws.{told-whole}
 
+-- ---- how reading ended
+
+pub end_is_no_fault : End ≡ Fault → ⊥
+end_is_no_fault e = cc
+
+pub over_is_no_fault : Over ≡ Fault → ⊥
+over_is_no_fault e = cc
+
+at_end_unfaulted : (end : WholeEnd) → end ≡ End → end ≡ Fault → ⊥
+at_end_unfaulted end at_end fault = end_is_no_fault (sym at_end ∙ fault)
+
 -- ---- the lines before the limit
 
 le_of_not : (limit n : ℕ) → (limit < n → ⊥) → n ≤ limit
@@ -131,11 +142,11 @@ pub shows-unbuilt : (before after : Seen) (unwritten : Type 0) (end : WholeEnd) 
     → EndsWhole after.left before.read_faults after.read_faults bytes end → HasUnbuilt (lines_shown end bytes) → unwritten
     → Shows before after unwritten (unbuilt_status end)
 shows-unbuilt before after unwritten End bytes read ends unbuilt kept = record {
-  promised = (told-whole before.left after.left bytes (λ all. HasUnbuilt (lines_before_limit all)) read (ends.at_end refl) unbuilt, kept);
+  promised = (ends.kept end_is_no_fault, told-whole before.left after.left bytes (λ all. HasUnbuilt (lines_before_limit all)) read (ends.at_end refl) unbuilt, kept);
   due = λ unread unwrit. told-whole before.left after.left bytes (λ all. IsDueStatus all NotBuilt) read (ends.at_end refl) (due-unbuilt bytes unbuilt);
 }
 shows-unbuilt before after unwritten Over bytes read ends unbuilt kept = record {
-  promised = (told-front before.left after.left bytes (λ all. HasUnbuilt (lines_before_limit all)) read holds, kept);
+  promised = (ends.kept over_is_no_fault, told-front before.left after.left bytes (λ all. HasUnbuilt (lines_before_limit all)) read holds, kept);
   due = λ unread unwrit. told-front before.left after.left bytes (λ all. IsDueStatus all NotBuilt) read (λ more. due-unbuilt (bytes ++ more) (holds more));
 }
   where
@@ -158,36 +169,45 @@ limit_told before after Fault bytes text P read ends unfaulted cut holds = absur
 -- the text was written
 pub shows-written : (before after : Seen) (unwritten : Type 0) (end : WholeEnd) (bytes text : List ℕ) (status : Status) → Consumes before.left after.left bytes
     → EndsWhole after.left before.read_faults after.read_faults bytes end → IsOutcome end bytes status text
-    → Appends before.written after.written text → Shows before after unwritten status
-shows-written before after unwritten end bytes text Done read ends outcome appended =
+    → Appends before.written after.written text → after.write_faults ≡ before.write_faults → Shows before after unwritten status
+shows-written before after unwritten end bytes text Done read ends outcome appended unfailed =
     let at_end = ends.at_end outcome.0 in record {
-      promised = told-whole before.left after.left bytes
-          (λ all. IsAtEnd after.left × ((written : List ℕ) × IsShownWhole all written 0 × Appends before.written after.written written)) read at_end
-          (at_end, (text, outcome.1, appended));
+      promised = (
+        (ends.kept (at_end_unfaulted end outcome.0), unfailed),
+        told-whole before.left after.left bytes
+            (λ all. IsAtEnd after.left × ((written : List ℕ) × IsShownWhole all written 0 × Appends before.written after.written written)) read at_end
+            (at_end, (text, outcome.1, appended)),
+      );
       due = λ unread unwrit. told-whole before.left after.left bytes (λ all. IsDueStatus all Done) read at_end (due-done bytes text outcome.1);
     }
-shows-written before after unwritten end bytes text Refused read ends outcome appended =
+shows-written before after unwritten end bytes text Refused read ends outcome appended unfailed =
     let at_end = ends.at_end outcome.0 in
     let refused = outcome.1.0 in record {
-      promised = told-whole before.left after.left bytes
-          (λ all. IsAtEnd after.left × ((written : List ℕ) × (count : ℕ) × (0 < count) × IsShownWhole all written count × Appends before.written after.written written)) read at_end
-          (at_end, (text, refused, outcome.1.1, outcome.1.2, appended));
+      promised = (
+        (ends.kept (at_end_unfaulted end outcome.0), unfailed),
+        told-whole before.left after.left bytes
+            (λ all. IsAtEnd after.left × ((written : List ℕ) × (count : ℕ) × (0 < count) × IsShownWhole all written count × Appends before.written after.written written)) read at_end
+            (at_end, (text, refused, outcome.1.1, outcome.1.2, appended)),
+      );
       due = λ unread unwrit. told-whole before.left after.left bytes (λ all. IsDueStatus all Refused) read at_end (due-refused bytes text refused outcome.1.1 outcome.1.2);
     }
-shows-written before after unwritten end bytes text Words read ends outcome appended = absurd outcome
-shows-written before after unwritten end bytes text ReadFault read ends outcome appended =
+shows-written before after unwritten end bytes text Words read ends outcome appended unfailed = absurd outcome
+shows-written before after unwritten end bytes text ReadFault read ends outcome appended unfailed =
     let faulted = ends.faulted outcome.0 in record {
       promised = (bytes, (faulted, read), inl (text, outcome.1, appended));
       due = λ unread unwrit. absurd (unread faulted);
     }
-shows-written before after unwritten end bytes text WriteFault read ends outcome appended = absurd outcome
-shows-written before after unwritten end bytes text NoMemory read ends outcome appended = absurd outcome
-shows-written before after unwritten end bytes text Limit read ends outcome appended = record {
-  promised = limit_told before after end bytes text (λ all. (written : List ℕ) × IsShownCut all written × Appends before.written after.written written) read ends outcome.0 outcome.1
-      (λ all cut. (text, cut, appended));
+shows-written before after unwritten end bytes text WriteFault read ends outcome appended unfailed = absurd outcome
+shows-written before after unwritten end bytes text NoMemory read ends outcome appended unfailed = absurd outcome
+shows-written before after unwritten end bytes text Limit read ends outcome appended unfailed = record {
+  promised = (
+    (ends.kept outcome.0, unfailed),
+    limit_told before after end bytes text (λ all. (written : List ℕ) × IsShownCut all written × Appends before.written after.written written) read ends outcome.0 outcome.1
+        (λ all cut. (text, cut, appended)),
+  );
   due = λ unread unwrit. limit_told before after end bytes text (λ all. IsDueStatus all Limit) read ends outcome.0 outcome.1 (λ all cut. due-cut all text cut);
 }
-shows-written before after unwritten end bytes text NotBuilt read ends outcome appended = absurd outcome
+shows-written before after unwritten end bytes text NotBuilt read ends outcome appended unfailed = absurd outcome
 
 -- a write failed: what was due, by the status that was to come
 cut_short : (before after : Seen) (unwritten : Type 0) (end : WholeEnd) (bytes text : List ℕ) (status : Status) → Consumes before.left after.left bytes
@@ -224,12 +244,6 @@ shows-cut before after unwritten end bytes text status read ends outcome rose fr
 }
 
 -- ---- the text that is to be written
-
-pub end_is_no_fault : End ≡ Fault → ⊥
-end_is_no_fault e = cc
-
-pub over_is_no_fault : Over ≡ Fault → ⊥
-over_is_no_fault e = cc
 
 -- lines that are shown where reading ended so
 pub shown_at : (end known : WholeEnd) (bytes text : List ℕ) (refused : ℕ) → end ≡ known → AreShown (lines_shown end bytes) text refused → AreShown (lines_shown known bytes) text refused

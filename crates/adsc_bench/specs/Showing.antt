@@ -30,14 +30,18 @@ IsShownBefore bytes text = (refused : ℕ) × AreShown (first_lines (whole_lines
 abbrev pub WereRead : Seen → Seen → List ℕ → Type 0
 WereRead before after bytes = Rose before.read_faults after.read_faults × Consumes before.left after.left bytes
 
+-- no read and no write failed
+abbrev pub Faultless : Seen → Seen → Type 0
+Faultless before after = (after.read_faults ≡ before.read_faults) × (after.write_faults ≡ before.write_faults)
+
 -- What each status promises, where `unwritten` says that the sink is as it was.
 abbrev pub Promises : Seen → Seen → Type 0 → Status → Type 0
--- Done: the input was read to its end, its shown text was written, and no line is refused.
-Promises before after unwritten Done =
-    IfSome before.left (λ bytes. IsAtEnd after.left × ((text : List ℕ) × IsShownWhole bytes text 0 × Appends before.written after.written text))
+-- Done: no fault came, the input was read to its end, its shown text was written, and no line is refused.
+Promises before after unwritten Done = Faultless before after
+    × IfSome before.left (λ bytes. IsAtEnd after.left × ((text : List ℕ) × IsShownWhole bytes text 0 × Appends before.written after.written text))
 -- Refused: the same, and some line is refused.
-Promises before after unwritten Refused =
-    IfSome before.left (λ bytes. IsAtEnd after.left
+Promises before after unwritten Refused = Faultless before after
+    × IfSome before.left (λ bytes. IsAtEnd after.left
     × ((text : List ℕ) × (refused : ℕ) × (0 < refused) × IsShownWhole bytes text refused × Appends before.written after.written text))
 -- Words: never.
 Promises before after unwritten Words = ⊥
@@ -51,11 +55,12 @@ Promises before after unwritten WriteFault = Rose before.write_faults after.writ
     ⊎ ((bytes : List ℕ) × WereRead before after bytes × ((text : List ℕ) × IsShownBefore bytes text × AppendsPrefix before.written after.written text)))
 -- NoMemory: nothing was written.
 Promises before after unwritten NoMemory = unwritten
--- Limit: the limit is met, and the shown text of the lines before was written.
-Promises before after unwritten Limit =
-    IfSome before.left (λ bytes. (text : List ℕ) × IsShownCut bytes text × Appends before.written after.written text)
--- NotBuilt: some line before the limit is not built, and nothing was written.
-Promises before after unwritten NotBuilt = IfSome before.left (λ bytes. HasUnbuilt (lines_before_limit bytes)) × unwritten
+-- Limit: no fault came, the limit is met, and the shown text of the lines before was written.
+Promises before after unwritten Limit = Faultless before after
+    × IfSome before.left (λ bytes. (text : List ℕ) × IsShownCut bytes text × Appends before.written after.written text)
+-- NotBuilt: no read failed, some line before the limit is not built, and nothing was written.
+Promises before after unwritten NotBuilt = (after.read_faults ≡ before.read_faults)
+    × IfSome before.left (λ bytes. HasUnbuilt (lines_before_limit bytes)) × unwritten
 
 -- The status is the one that the lines of the input say, or want of memory.
 pub record IsDueStatus (bytes : List ℕ) (status : Status) : Type 0 where

@@ -28,6 +28,6 @@ mod uplinks;
 mod words;
 
 pub use bench::top;
-pub use laws::an_input_has_one_output;
+pub use laws::{an_input_has_one_output, an_input_has_one_shown_text};
 pub use showing::show;
 pub use status::Status;

@@ -9,6 +9,7 @@
 mod digits;
 mod groups;
 mod items;
+mod laws;
 mod line;
 mod lines;
 mod numbers;
@@ -17,6 +18,7 @@ mod refusals;
 mod shown;
 mod whole;
 
+pub use laws::lines_have_one_shown_text;
 pub use line::{Downlink, Line, read_line};
 pub use lines::{ShownLines, show_lines};
 pub use refusal::LineRefusal;

@@ -68,18 +68,24 @@ fn each_kind_of_line(rt: HostRuntime) -> Result<(), Fail> {
 #[test]
 fn long_lines(rt: HostRuntime) -> Result<(), Fail> {
     let alloc = rt.alloc();
-    let table: [(usize, &str); 2] = [
-        (4_096, "line,1,refused,LONG,533\nend,1,1\n"),
-        (4_097, "line,1,refused,LONG,4096\nend,1,1\n"),
+    let ads = "D,/AKLCDYA.ADS.N12345";
+    let afn = "D,/AKLCDYA.AFN";
+    let table: [(&str, usize, &str); 5] = [
+        (ads, 536, "line,1,refused,LONG,533\nend,1,1\n"),
+        (ads, 4_096, "line,1,refused,LONG,533\nend,1,1\n"),
+        (ads, 4_097, "line,1,refused,LONG,4096\nend,1,1\n"),
+        (afn, 274, "line,1,refused,LONG,271\nend,1,1\n"),
+        (afn, 4_096, "line,1,refused,LONG,271\nend,1,1\n"),
     ];
-    for (length, shown) in table {
-        let mut line = Vec::from_slice(alloc, b"D,/AKLCDYA.ADS.N12345")?;
-        for _ in 21..length {
+    for (front, length, shown) in table {
+        let mut line = Vec::from_slice(alloc, front.as_bytes())?;
+        for _ in front.len()..length {
             line.push(b'0')?;
         }
         assert_eq!(rt;
             text_of(alloc, line.as_slice())?.as_slice(),
-            shown.as_bytes()
+            shown.as_bytes(),
+            "at {length}"
         );
     }
     Ok(())

@@ -15,7 +15,7 @@ returns-in-Ok-write_all g c =
     let outcome = subst (λ bytes. IsOutcome c.in-Ok.whole.end bytes c.in-Ok-Some.output.status c.in-Ok-Some.output.text.items) c.bytes.ensures
     (rw c.in-Ok-Some.field-0-is at c.in-Ok-Some.ensures.some) in
     shows-written _ _ _ c.in-Ok.whole.end c.in-Ok.whole.bytes c.in-Ok-Some.output.text.items c.in-Ok-Some.output.status c.in-Ok.ensures.bytes c.in-Ok.ensures.end outcome
-    (rw c.as_slice.ensures.value at c.in-Ok-write_all.ensures.written)
+    (rw c.as_slice.ensures.value at c.in-Ok-write_all.ensures.written) c.in-Ok-write_all.ensures.cause.kept
 
 pub returns : goal.returns
 returns g c =
