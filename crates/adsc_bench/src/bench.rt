@@ -38,6 +38,10 @@ pub fn top<S: Source, K: Sink>(
     // On `run 1`, Done: the source was read to its end, and the bytes written are the output of the script that it held.
     ensures done { AskForRun (map string_bytes words.now) → result ≡ Status.Done → IfSome (S.left source.old) (λ bytes. IsAtEnd (S.left source.new)
         × ((text : List ℕ) × IsOutput bytes text × Appends (K.written sink.old) (K.written sink.new) text)) }
+    // Done and NotBuilt: no read failed, and where it is Done no write.
+    ensures unfaulted { AskForRun (map string_bytes words.now) → (result ≡ Status.Done) ⊎ (result ≡ Status.NotBuilt)
+        → S.faults source.new ≡ S.faults source.old }
+    ensures unfailed { AskForRun (map string_bytes words.now) → result ≡ Status.Done → K.faults sink.new ≡ K.faults sink.old }
     // Faults: only where the count of the source or of the sink rose in this call.
     ensures read { AskForRun (map string_bytes words.now) → result ≡ Status.ReadFault → Rose (S.faults source.old) (S.faults source.new) }
     ensures write { AskForRun (map string_bytes words.now) → result ≡ Status.WriteFault → Rose (K.faults sink.old) (K.faults sink.new) }

@@ -71,6 +71,7 @@ impl Asked {
         self.lateral.is_some() || self.vrate.is_some() || self.range.is_some() || self.waypoint
     }
 
+    /// The same and the lateral deviation threshold (group 10), in 0.125 NM and not 0. The group was not read before.
     pub fn with_lateral(self, threshold: u8) -> Asked
         requires above_0 { 0 < threshold }
         requires new { has_tag 10 (asked_groups self) ≡ false }
@@ -81,6 +82,7 @@ impl Asked {
         asked
     }
 
+    /// The same and the octet of the reporting interval (group 11), as sent. The group was not read before.
     pub fn with_interval(self, octet: u8) -> Asked
         requires { has_tag 11 (asked_groups self) ≡ false }
         ensures { asked_groups result ≡ put (record { tag = 11; octets = single octet }) (asked_groups self) }
@@ -90,6 +92,8 @@ impl Asked {
         asked
     }
 
+    /// The same and in every how many reports a group stands: the modulus (groups 12 to 17), where 0 means never. The group was not
+    /// read before.
     pub fn with_modulus(self, tag: u8, modulus: u8) -> Asked
         requires tag { IsTrue (is_modulus_tag tag) }
         requires new { has_tag tag (asked_groups self) ≡ false }
@@ -100,6 +104,7 @@ impl Asked {
         asked
     }
 
+    /// The same and the vertical rate threshold (group 18), in 64 ft/min and not 0. The group was not read before.
     pub fn with_vrate(self, threshold: i8) -> Asked
         requires not_0 { IsTrue (is_not_zero threshold) }
         requires new { has_tag 18 (asked_groups self) ≡ false }
@@ -110,6 +115,7 @@ impl Asked {
         asked
     }
 
+    /// The same and the altitude range (group 19). The group was not read before.
     pub fn with_range(self, range: Range) -> Asked
         requires { has_tag 19 (asked_groups self) ≡ false }
         ensures { asked_groups result ≡ put (record { tag = 19; octets = range_octets range }) (asked_groups self) }
@@ -119,6 +125,7 @@ impl Asked {
         asked
     }
 
+    /// The same, with changes of the active waypoint reported (group 20). The group was not read before.
     pub fn with_waypoint(self) -> Asked
         requires { has_tag 20 (asked_groups self) ≡ false }
         ensures { asked_groups result ≡ put (record { tag = 20; octets = [] }) (asked_groups self) }
@@ -128,6 +135,7 @@ impl Asked {
         asked
     }
 
+    /// The same and the aircraft intent (group 21). The group was not read before.
     pub fn with_intent(self, intent: Intent) -> Asked
         requires { has_tag 21 (asked_groups self) ≡ false }
         ensures { asked_groups result ≡ put (record { tag = 21; octets = intent_octets intent }) (asked_groups self) }

@@ -96,6 +96,7 @@ pub enum Message {
 /// The payload of an uplink: 1 to 4 messages in their order.
 #[derive(Debug, PartialEq, Eq, Drop)]
 pub struct Uplink {
+    /// The messages in the order in which they stand, 1 to 4.
     pub messages: ArrayVec<Message, 4>,
     ghost some: { 1 ≤ length messages.items },
     ghost few: { length messages.items ≤ 4 },

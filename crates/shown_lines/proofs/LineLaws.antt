@@ -8,7 +8,7 @@ use Rattle.acars_envelope.specs.declared.refusal.EnvelopeRefusal.{EnvelopeRefusa
 use Rattle.acars_envelope.specs.Faults.{IsFirstEnvelopeFault}
 use Rattle.acars_envelope.specs.Texts.{IsEnvelopeText}
 use Rattle.arrayvec.specs.ArrayVec.{ArrayVec}
-use Rattle.shown_lines.specs.declared.refusal.LineRefusal.TheVariants as refusal
+use Rattle.shown_lines.specs.declared.refusal.TextRefusal.TheVariants as refusal
 use Rattle.shown_lines.specs.Meanings.{Meaning, IsLineOf, BeginsWith, PayloadMeans, BodyMeans, TextMeans, DownlinkLineMeans, Means, IsMeaning}
 use Rattle.shown_lines.specs.Meanings.Meaning.{refused}
 

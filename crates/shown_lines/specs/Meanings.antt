@@ -12,13 +12,13 @@ use Rattle.adsc_downlink.specs.Items.{ItemData}
 use Rattle.adsc_downlink.specs.Encodings.{EncodesDownlink}
 use Rattle.adsc_downlink.specs.Faults.{IsFirstDownlinkFault}
 use Rattle.adsc_downlink.specs.declared.refusal.DownRefusal.{DownRefusal}
-use Rattle.shown_lines.specs.declared.refusal.LineRefusal.{LineRefusal}
-use Rattle.shown_lines.specs.declared.refusal.LineRefusal.TheVariants as refusal
+use Rattle.shown_lines.specs.declared.refusal.TextRefusal.{TextRefusal}
+use Rattle.shown_lines.specs.declared.refusal.TextRefusal.TheVariants as refusal
 
 -- A meaning as plain data. Lines of forms that are not built yet have no other meaning than that.
 pub data Meaning : Type 0 where
   downlink : (address registration : List ℕ) (items : List ItemData) → Meaning
-  refused : LineRefusal → Meaning
+  refused : TextRefusal → Meaning
   not_built : Meaning
 
 -- The line begins with this letter and a comma, and this text stands behind.

@@ -15,8 +15,8 @@ use Rattle.adsc_downlink.specs.Items.{ReportData, ItemData}
 use Rattle.adsc_downlink.specs.Items.ItemData.{ack, nack, noncompliance, emergency_off, report}
 use Rattle.adsc_downlink.specs.declared.refusal.DownWhy.{DownWhy}
 use Rattle.adsc_downlink.specs.declared.refusal.DownWhy.TheVariants as payload
-use Rattle.shown_lines.specs.declared.refusal.LineRefusal.{LineRefusal}
-use Rattle.shown_lines.specs.declared.refusal.LineRefusal.TheVariants as refusal
+use Rattle.shown_lines.specs.declared.refusal.TextRefusal.{TextRefusal}
+use Rattle.shown_lines.specs.declared.refusal.TextRefusal.TheVariants as refusal
 use Rattle.shown_lines.specs.Meanings.{Meaning}
 use Rattle.shown_lines.specs.Meanings.Meaning.{downlink, refused, not_built}
 
@@ -109,7 +109,7 @@ payload_code payload.Value = codes "BITS-VALUE"
 payload_code payload.Many = codes "BITS-MANY"
 
 -- the code of a refusal and what stands behind it
-abbrev pub refusal_fields : LineRefusal → List ℕ
+abbrev pub refusal_fields : TextRefusal → List ℕ
 refusal_fields refusal.Long = codes "LONG,4096"
 refusal_fields refusal.Form = codes "FORM,0"
 refusal_fields (refusal.Envelope fault) = envelope_code fault.why ++ envelope_fields fault.place fault.why
@@ -118,7 +118,7 @@ refusal_fields (refusal.Payload fault) = payload_code fault.why ++ number_field 
 -- ---- lines
 
 -- the line of a refusal, with the number of the line that is refused
-unfoldable pub refusal_text : ℕ → LineRefusal → List ℕ
+unfoldable pub refusal_text : ℕ → TextRefusal → List ℕ
 refusal_text number fault = ended (codes "line" ++ number_field number ++ codes ",refused," ++ refusal_fields fault)
 
 -- the line that says from whom and to whom a downlink is

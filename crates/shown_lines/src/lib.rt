@@ -21,7 +21,7 @@ mod whole;
 pub use laws::lines_have_one_shown_text;
 pub use line::{Downlink, Line, read_line};
 pub use lines::{ShownLines, show_lines};
-pub use refusal::LineRefusal;
+pub use refusal::TextRefusal;
 pub use shown::{append_end, append_line};
 pub use whole::whole_lines;
 

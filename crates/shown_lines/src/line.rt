@@ -5,7 +5,7 @@ ghost use Rattle.adsc_io.specs.Limits.{max_line_bytes};
 ghost use Rattle.shown_lines.specs.LineView.{meaning_of};
 ghost use Rattle.shown_lines.specs.Meanings.{Meaning, IsLineOf, BeginsWith, PayloadMeans, BodyMeans, TextMeans, DownlinkLineMeans, IsMeaning};
 
-use crate::refusal::LineRefusal;
+use crate::refusal::TextRefusal;
 use acars_envelope::{Address, Body, Registration, unseal};
 use adsc_downlink::{Items, decode_downlink};
 use adsc_io::MAX_LINE_BYTES;
@@ -29,7 +29,7 @@ pub enum Line {
     /// The line is a downlink's.
     Downlink(Downlink),
     /// The line is refused.
-    Refused(LineRefusal),
+    Refused(TextRefusal),
     /// The line is of a form that is not built yet: an uplink, or a downlink of the application AFN.
     NotBuilt,
 }
@@ -53,11 +53,11 @@ fn read_downlink_line(line: &[u8]) -> Line
     ensures only { (other : Meaning) → DownlinkLineMeans line.now other → other ≡ meaning_of result }
 {
     if line.len() > MAX_LINE_BYTES {
-        return Line::Refused(LineRefusal::Long);
+        return Line::Refused(TextRefusal::Long);
     }
     match text_behind(b'D', line) {
         Some(text) => read_text(text),
-        None => Line::Refused(LineRefusal::Form),
+        None => Line::Refused(TextRefusal::Form),
     }
 }
 
@@ -79,7 +79,7 @@ fn read_text(text: &[u8]) -> Line
 {
     match unseal(text) {
         Ok(envelope) => read_body(envelope.address, &envelope.body),
-        Err(fault) => Line::Refused(LineRefusal::Envelope(fault)),
+        Err(fault) => Line::Refused(TextRefusal::Envelope(fault)),
     }
 }
 
@@ -109,6 +109,6 @@ fn read_payload(address: Address, registration: Registration, payload: &[u8]) ->
             registration,
             items,
         }),
-        Err(fault) => Line::Refused(LineRefusal::Payload(fault)),
+        Err(fault) => Line::Refused(TextRefusal::Payload(fault)),
     }
 }

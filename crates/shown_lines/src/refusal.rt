@@ -5,7 +5,7 @@ use adsc_downlink::DownRefusal;
 
 /// What is wrong with a line of texts. This project's profile.
 #[derive(Clone, Copy, Debug, PartialEq, Eq)]
-pub enum LineRefusal {
+pub enum TextRefusal {
     /// The line has more than 4,096 bytes.
     Long,
     /// The line begins neither with `U,` nor with `D,`.

@@ -4,7 +4,7 @@ ghost use Rattle.shown_lines.specs.Texts.{envelope_code, envelope_fields, payloa
 
 use crate::digits::append_check_codes;
 use crate::numbers::append_number;
-use crate::refusal::LineRefusal;
+use crate::refusal::TextRefusal;
 use acars_envelope::{EnvelopeRefusal, EnvelopeWhy};
 use adsc_downlink::DownWhy;
 use std::alloc::AllocError;
@@ -14,7 +14,7 @@ use std::alloc::AllocError;
 pub(crate) fn append_refusal(
     out: &mut Vec<u8>,
     number: u32,
-    refusal: &LineRefusal,
+    refusal: &TextRefusal,
 ) -> Result<(), AllocError>
     ensures { OnOk result (out.new.items ≡ out.old.items ++ refusal_text number refusal.now) }
 {
@@ -26,14 +26,14 @@ pub(crate) fn append_refusal(
 }
 
 /// Appends the code of a refusal and what stands behind it.
-fn append_refusal_fields(out: &mut Vec<u8>, refusal: &LineRefusal) -> Result<(), AllocError>
+fn append_refusal_fields(out: &mut Vec<u8>, refusal: &TextRefusal) -> Result<(), AllocError>
     ensures { OnOk result (out.new.items ≡ out.old.items ++ refusal_fields refusal.now) }
 {
     match refusal {
-        LineRefusal::Long => out.extend_from_slice(b"LONG,4096"),
-        LineRefusal::Form => out.extend_from_slice(b"FORM,0"),
-        LineRefusal::Envelope(fault) => append_envelope_fault(out, fault),
-        LineRefusal::Payload(fault) => {
+        TextRefusal::Long => out.extend_from_slice(b"LONG,4096"),
+        TextRefusal::Form => out.extend_from_slice(b"FORM,0"),
+        TextRefusal::Envelope(fault) => append_envelope_fault(out, fault),
+        TextRefusal::Payload(fault) => {
             append_payload_code(out, fault.why)?;
             append_number(out, fault.bit)
         }

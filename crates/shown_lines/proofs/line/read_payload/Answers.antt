@@ -1,7 +1,7 @@
 use Rattle.std.proofs.Common.{inl, inr, refl, sym, ap, ◌∙◌}
 use Rattle.adsc_downlink.specs.ItemView.{items_data}
 use Rattle.shown_lines.specs.Meanings.Meaning.{downlink, refused}
-use Rattle.shown_lines.specs.declared.refusal.LineRefusal.TheVariants as refusal
+use Rattle.shown_lines.specs.declared.refusal.TextRefusal.TheVariants as refusal
 use Rattle.shown_lines.proofs.line.read_payload.Goals as goal
 
 pub returns-in-Ok-clause-means : goal.returns-in-Ok-clause-means
