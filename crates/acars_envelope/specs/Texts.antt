@@ -1,6 +1,6 @@
 -- The text of an envelope (ARINC 622, with this project's check).
-use Rattle.std.specs.Prelude.{◌≡◌, ℕ, List, ◌++◌, codes}
-use Rattle.std.specs.Int.{to_be_bytes, w16}
+use Rattle.std.specs.Prelude.{◌≡◌, ℕ, List, ◌++◌, codes, drop}
+use Rattle.std.specs.Int.{to_be_bytes, w16, w32}
 use Rattle.hex.specs.Hex.{encode_upper}
 use Rattle.acars_envelope.specs.declared.texts.Body.{Body}
 use Rattle.acars_envelope.specs.declared.texts.Envelope.{Envelope}
@@ -11,6 +11,10 @@ use Rattle.acars_envelope.specs.Bodies.{HasItsForms, written_body, covered_octet
 -- a number below 65,536 as four hexadecimal digits, capital letters
 abbrev pub four_digits : ℕ → List ℕ
 four_digits n = encode_upper (to_be_bytes w16 n)
+
+-- a number below 2^24, as an aircraft's address, as six hexadecimal digits, capital letters
+abbrev pub six_digits : ℕ → List ℕ
+six_digits n = encode_upper (drop 1 (to_be_bytes w32 n))
 
 -- the text with this address and this body: a slash, the address, a dot, the body as it is written, and the
 -- four digits of the check over what it covers

@@ -39,8 +39,9 @@ pub(crate) fn append_digits<const N: usize>(text: &mut ArrayVec<u8, N>, octets: 
     append(text, digits);
 }
 
-/// Writes octets as digits over a slice of twice their number.
-fn write_digits(octets: &[u8], digits: &mut [u8])
+/// Writes octets as hexadecimal digits with capital letters, two an octet, over a slice of twice their number. These
+/// are the digits of an envelope's payload and check (ARINC 622), and wherever this project's profile writes hexadecimal.
+pub fn write_digits(octets: &[u8], digits: &mut [u8])
     requires { length digits.old ≡ 2 * length octets.now }
     ensures written { digits.new ≡ encode_upper octets.now }
     ensures bytes { IsBytes octets.now }

@@ -28,6 +28,7 @@ mod writer;
 
 pub use check::{check_code, division_leaves_the_remainder};
 pub use digits::octets_of_digits;
+pub use hexadecimal::write_digits;
 pub use names::{Address, Flight, Registration};
 pub use reader::unseal;
 pub use refusal::{EnvelopeRefusal, EnvelopeWhy};

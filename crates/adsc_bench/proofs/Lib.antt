@@ -1,13 +1,7 @@
 pub mod BenchLaws
-pub mod DemandsLaws
-pub mod FieldsLaws
-pub mod HeadLaws
-pub mod JournalLaws
 pub mod ListLemmas
 pub mod OneOutput
 pub mod OneShownText
 pub mod OptionLemmas
-pub mod OutputLaws
-pub mod ScriptLaws
+pub mod RunningLaws
 pub mod ShowingLaws
-pub mod UplinksLaws

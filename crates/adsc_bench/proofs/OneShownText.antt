@@ -1,7 +1,7 @@
 -- An input has at most one shown text.
 use Rattle.std.proofs.Common.{◌≡◌, ℕ, List, ◌++◌, length, inl, inr, sym, ap₂, ◌∙◌}
 use Rattle.adsc_io.specs.Lines.{script_lines}
-use Rattle.shown_lines.specs.Inputs.{lines_before_limit}
+use Rattle.adsc_io.specs.Inputs.{lines_before_limit}
 use Rattle.shown_lines.specs.Texts.{end_text}
 use Rattle.shown_lines.proofs.OneText.{one_text}
 use Rattle.adsc_bench.specs.Showing.{IsShownText}

@@ -1,8 +1,8 @@
 -- The laws of what `show` promises: from what was read and how reading ended to the promise of each status.
 use Rattle.std.proofs.Common.{◌≡◌, ℕ, zero, suc, ◌+◌, ◌<◌, ◌≤◌, cond, List, ◌++◌, length, take, Option, Some, None, IfSome, inl, inr, sym, ap, ◌∙◌, refl, subst, arith, ne_eqb}
-use Rattle.std.proofs.lemmas.Bool.{le-leb, lt-leb, cases_lt}
+use Rattle.std.proofs.lemmas.Bool.{le-leb, cases_lt}
 use Rattle.std.specs.Io.KnownBytes.{Appends, Consumes, IsAtEnd}
-use Rattle.std.proofs.lemmas.List.{take_all, length-append, take-append-le}
+use Rattle.std.proofs.lemmas.List.{take_all, length-append}
 use Rattle.adsc_io.specs.Causes.{Rose}
 use Rattle.adsc_io.specs.Limits.{max_script_bytes, max_script_lines}
 use Rattle.adsc_io.specs.Lines.{script_lines}
@@ -10,15 +10,17 @@ use Rattle.adsc_io.specs.Whole.{EndsWhole}
 use Rattle.adsc_io.specs.Writes.{AppendsPrefix}
 use Rattle.adsc_io.specs.declared.reading.WholeEnd.{WholeEnd}
 use Rattle.adsc_io.specs.declared.reading.WholeEnd.TheVariants.{End, Fault, Over}
-use Rattle.shown_lines.specs.Inputs.{IsOverLimit, first_lines, lines_before_limit, whole_lines}
+use Rattle.adsc_io.specs.Inputs.{IsOverLimit, first_lines, lines_before_limit, whole_lines}
 use Rattle.shown_lines.specs.Meanings.{HasUnbuilt}
 use Rattle.shown_lines.specs.Shown.{AreShown, IsShownWhole, IsShownCut}
 use Rattle.shown_lines.specs.Texts.{end_text}
 use Rattle.shown_lines.proofs.CountLaws.{shown_is_built, refused_is_counted, counted_is_refused}
 use Rattle.adsc_bench.specs.Outcomes.{IsOutcome, lines_shown, status_of_whole, unbuilt_status}
-use Rattle.adsc_bench.specs.Showing.{Seen, IsShownText, Promises, IsDueStatus, Shows}
+use Rattle.adsc_bench.specs.Seen.{Seen}
+use Rattle.adsc_bench.specs.Showing.{IsShownText, Promises, IsDueStatus, Shows}
 use Rattle.adsc_bench.specs.declared.status.Status.{Status}
-use Rattle.adsc_bench.specs.declared.status.Status.TheVariants.{Done, Refused, Words, ReadFault, WriteFault, NoMemory, Limit, NotBuilt}
+use Rattle.adsc_bench.specs.declared.status.Status.TheVariants.{Done, Refused, Words, ReadFault, WriteFault, BadLine, NoMemory, Limit, NotBuilt}
+use Rattle.adsc_run.proofs.LimitLaws.{before_more}
 use Rattle.adsc_bench.proofs.BenchLaws.{told-whole}
 
 -- ---- how reading ended
@@ -48,23 +50,11 @@ lines_before-within bytes within =
     lines_before-short bytes (le_of_not _ _ (λ long. within (inl long)))
     ∙ take_all max_script_lines (script_lines bytes) (le_of_not _ _ (λ many. within (inr many)))
 
--- over the limit of bytes these are the lines that end within it
-pub lines_before-long : (bytes : List ℕ) → max_script_bytes < length bytes → lines_before_limit bytes ≡ first_lines (whole_lines (take max_script_bytes bytes))
-lines_before-long bytes long =
-    ap (λ b. cond b (first_lines (script_lines bytes)) (first_lines (whole_lines (take max_script_bytes bytes)))) (lt-leb (length bytes) max_script_bytes long)
-
--- bytes over the limit have these lines before the limit, whatever follows
-lines_before-more : (bytes more : List ℕ) → length bytes ≡ max_script_bytes + 1 → lines_before_limit (bytes ++ more) ≡ lines_before_limit bytes
-lines_before-more bytes more size =
-    lines_before-long (bytes ++ more) (omega (arith, size, length-append bytes more))
-    ∙ ap (λ front. first_lines (whole_lines front)) (take-append-le max_script_bytes bytes more (omega (arith, size)))
-    ∙ sym (lines_before-long bytes (omega (arith, size)))
-
 cut-more : (bytes more text : List ℕ) → length bytes ≡ max_script_bytes + 1 → IsShownCut bytes text → IsShownCut (bytes ++ more) text
 cut-more bytes more text size cut = record {
   over = inl (omega (arith, size, length-append bytes more));
   refused = cut.refused;
-  shown = subst (λ (lines : List (List ℕ)). AreShown lines text cut.refused) (sym (lines_before-more bytes more size)) cut.shown;
+  shown = subst (λ (lines : List (List ℕ)). AreShown lines text cut.refused) (sym (before_more bytes more (omega (arith, size)))) cut.shown;
 }
 
 -- ---- what a source told
@@ -151,7 +141,7 @@ shows-unbuilt before after unwritten Over bytes read ends unbuilt kept = record 
 }
   where
     holds : (more : List ℕ) → HasUnbuilt (lines_before_limit (bytes ++ more))
-    holds more = subst HasUnbuilt (sym (lines_before-more bytes more (ends.over.0 refl))) unbuilt
+    holds more = subst HasUnbuilt (sym (before_more bytes more (omega (arith, ends.over.0 refl)))) unbuilt
 shows-unbuilt before after unwritten Fault bytes read ends unbuilt kept = record {
   promised = (bytes, (ends.faulted refl, read), inr (unbuilt, kept));
   due = λ unread unwrit. absurd (unread (ends.faulted refl));
@@ -198,6 +188,7 @@ shows-written before after unwritten end bytes text ReadFault read ends outcome 
       due = λ unread unwrit. absurd (unread faulted);
     }
 shows-written before after unwritten end bytes text WriteFault read ends outcome appended unfailed = absurd outcome
+shows-written before after unwritten end bytes text BadLine read ends outcome appended unfailed = absurd outcome
 shows-written before after unwritten end bytes text NoMemory read ends outcome appended unfailed = absurd outcome
 shows-written before after unwritten end bytes text Limit read ends outcome appended unfailed = record {
   promised = (
@@ -227,6 +218,7 @@ cut_short before after unwritten end bytes text Words read ends outcome rose fro
 cut_short before after unwritten end bytes text ReadFault read ends outcome rose front =
     (rose, inr (bytes, (ends.faulted outcome.0, read), (text, outcome.1, front)))
 cut_short before after unwritten end bytes text WriteFault read ends outcome rose front = absurd outcome
+cut_short before after unwritten end bytes text BadLine read ends outcome rose front = absurd outcome
 cut_short before after unwritten end bytes text NoMemory read ends outcome rose front = absurd outcome
 cut_short before after unwritten end bytes text Limit read ends outcome rose front = (
   rose,

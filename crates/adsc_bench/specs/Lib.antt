@@ -1,9 +1,6 @@
-pub mod Fields
-pub mod Heads
-pub mod Lines
 pub mod Outcomes
-pub mod Output
-pub mod Script
+pub mod Running
+pub mod Seen
 pub mod Showing
 pub mod Statuses
 pub mod Words

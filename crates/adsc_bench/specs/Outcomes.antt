@@ -1,12 +1,12 @@
 -- What `show` does with the bytes that it read, by how the reading of them ended (this project's profile).
 use Rattle.std.specs.Prelude.{◌≡◌, ◌≢◌, ℕ, ◌<◌, ◌==◌, if◌then◌else◌, List}
+use Rattle.adsc_io.specs.Inputs.{first_lines, lines_before_limit, whole_lines}
 use Rattle.adsc_io.specs.declared.reading.WholeEnd.{WholeEnd}
 use Rattle.adsc_io.specs.declared.reading.WholeEnd.TheVariants.{End, Fault, Over}
-use Rattle.shown_lines.specs.Inputs.{first_lines, lines_before_limit, whole_lines}
 use Rattle.shown_lines.specs.Shown.{IsShownWhole, IsShownCut}
 use Rattle.adsc_bench.specs.Showing.{IsShownBefore}
 use Rattle.adsc_bench.specs.declared.status.Status.{Status}
-use Rattle.adsc_bench.specs.declared.status.Status.TheVariants.{Done, Refused, Words, ReadFault, WriteFault, NoMemory, Limit, NotBuilt}
+use Rattle.adsc_bench.specs.declared.status.Status.TheVariants.{Done, Refused, Words, ReadFault, WriteFault, BadLine, NoMemory, Limit, NotBuilt}
 
 -- the lines that are shown: those before the limit, and before a fault those that were wholly read
 abbrev pub lines_shown : WholeEnd → List ℕ → List (List ℕ)
@@ -22,10 +22,11 @@ IsOutcome end bytes ReadFault text = (end ≡ Fault) × IsShownBefore bytes text
 IsOutcome end bytes Limit text = (end ≢ Fault) × IsShownCut bytes text
 IsOutcome end bytes Words text = ⊥
 IsOutcome end bytes WriteFault text = ⊥
+IsOutcome end bytes BadLine text = ⊥
 IsOutcome end bytes NoMemory text = ⊥
 IsOutcome end bytes NotBuilt text = ⊥
 
--- the status where some line is not built
+-- the status where some line is a text of the application AFN, which is not built
 abbrev pub unbuilt_status : WholeEnd → Status
 unbuilt_status End = NotBuilt
 unbuilt_status Over = NotBuilt

@@ -1,22 +1,15 @@
 -- What the command `show` promises (this project's profile).
 use Rattle.std.specs.Prelude.{◌≡◌, ◌⊎◌, ℕ, ◌<◌, List, IfSome}
-use Rattle.std.specs.declared.option.Option.{Option}
-use Rattle.std.specs.Io.KnownBytes.{Appends, Consumes, IsAtEnd}
+use Rattle.std.specs.Io.KnownBytes.{Appends, IsAtEnd}
 use Rattle.adsc_io.specs.Causes.{Rose}
+use Rattle.adsc_io.specs.Inputs.{IsOverLimit, first_lines, lines_before_limit, whole_lines}
 use Rattle.adsc_io.specs.Lines.{script_lines}
 use Rattle.adsc_io.specs.Writes.{AppendsPrefix}
-use Rattle.shown_lines.specs.Inputs.{IsOverLimit, first_lines, lines_before_limit, whole_lines}
 use Rattle.shown_lines.specs.Meanings.{HasRefused, HasUnbuilt}
 use Rattle.shown_lines.specs.Shown.{AreShown, IsShownWhole, IsShownCut}
+use Rattle.adsc_bench.specs.Seen.{Seen, Faultless, WereRead}
 use Rattle.adsc_bench.specs.declared.status.Status.{Status}
-use Rattle.adsc_bench.specs.declared.status.Status.TheVariants.{Done, Refused, Words, ReadFault, WriteFault, NoMemory, Limit, NotBuilt}
-
--- What a source and a sink tell: the bytes that are not yet read, how many reads failed, the bytes that were written, how many writes failed.
-pub record Seen : Type 0 where
-  pub left : Option (List ℕ)
-  pub read_faults : ℕ
-  pub written : Option (List ℕ)
-  pub write_faults : ℕ
+use Rattle.adsc_bench.specs.declared.status.Status.TheVariants.{Done, Refused, Words, ReadFault, WriteFault, BadLine, NoMemory, Limit, NotBuilt}
 
 -- The text is the shown text of these bytes: within the limit with the line that ends it, and over the limit without.
 abbrev pub IsShownText : List ℕ → List ℕ → Type 0
@@ -25,14 +18,6 @@ IsShownText bytes text = ((refused : ℕ) × IsShownWhole bytes text refused) �
 -- The text is the shown text of lines that were wholly read, before a read failed.
 abbrev pub IsShownBefore : List ℕ → List ℕ → Type 0
 IsShownBefore bytes text = (refused : ℕ) × AreShown (first_lines (whole_lines bytes)) text refused
-
--- These bytes were read, and then a read failed.
-abbrev pub WereRead : Seen → Seen → List ℕ → Type 0
-WereRead before after bytes = Rose before.read_faults after.read_faults × Consumes before.left after.left bytes
-
--- no read and no write failed
-abbrev pub Faultless : Seen → Seen → Type 0
-Faultless before after = (after.read_faults ≡ before.read_faults) × (after.write_faults ≡ before.write_faults)
 
 -- What each status promises, where `unwritten` says that the sink is as it was.
 abbrev pub Promises : Seen → Seen → Type 0 → Status → Type 0
@@ -45,7 +30,8 @@ Promises before after unwritten Refused = Faultless before after
     × ((text : List ℕ) × (refused : ℕ) × (0 < refused) × IsShownWhole bytes text refused × Appends before.written after.written text))
 -- Words: never.
 Promises before after unwritten Words = ⊥
--- ReadFault: a read failed, and the shown text of the lines wholly read before was written, or nothing where one of them is not built.
+-- ReadFault: a read failed, and the shown text of the lines wholly read before was written, or nothing where one of them is a text of the application AFN,
+-- which is not built.
 Promises before after unwritten ReadFault = (bytes : List ℕ) × WereRead before after bytes
     × (((text : List ℕ) × IsShownBefore bytes text × Appends before.written after.written text)
     ⊎ (HasUnbuilt (first_lines (whole_lines bytes)) × unwritten))
@@ -53,12 +39,14 @@ Promises before after unwritten ReadFault = (bytes : List ℕ) × WereRead befor
 Promises before after unwritten WriteFault = Rose before.write_faults after.write_faults
     × (IfSome before.left (λ bytes. (text : List ℕ) × IsShownText bytes text × AppendsPrefix before.written after.written text)
     ⊎ ((bytes : List ℕ) × WereRead before after bytes × ((text : List ℕ) × IsShownBefore bytes text × AppendsPrefix before.written after.written text)))
+-- BadLine: never.
+Promises before after unwritten BadLine = ⊥
 -- NoMemory: nothing was written.
 Promises before after unwritten NoMemory = unwritten
 -- Limit: no fault came, the limit is met, and the shown text of the lines before was written.
 Promises before after unwritten Limit = Faultless before after
     × IfSome before.left (λ bytes. (text : List ℕ) × IsShownCut bytes text × Appends before.written after.written text)
--- NotBuilt: no read failed, some line before the limit is not built, and nothing was written.
+-- NotBuilt: no read failed, some line before the limit is a text of the application AFN, which is not built, and nothing was written.
 Promises before after unwritten NotBuilt = (after.read_faults ≡ before.read_faults)
     × IfSome before.left (λ bytes. HasUnbuilt (lines_before_limit bytes)) × unwritten
 

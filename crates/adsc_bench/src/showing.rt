@@ -1,8 +1,8 @@
 //! The command `show`.
 ghost use Rattle.std.specs.Prelude.{◌≡◌, ◌↔◌, ◌+◌, ◌≤◌, ◌<◌, length, IsTrue, IfOk, IfSome, IfNone};
+ghost use Rattle.adsc_io.specs.Inputs.{first_lines, lines_before_limit};
 ghost use Rattle.adsc_io.specs.Limits.{max_script_bytes, max_script_lines};
 ghost use Rattle.adsc_io.specs.Lines.{script_lines};
-ghost use Rattle.shown_lines.specs.Inputs.{first_lines, lines_before_limit};
 ghost use Rattle.shown_lines.specs.Meanings.{HasUnbuilt};
 ghost use Rattle.shown_lines.specs.Shown.{AreShown};
 ghost use Rattle.adsc_bench.specs.Outcomes.{IsOutcome, lines_shown, unbuilt_status, status_of_whole};
@@ -10,16 +10,17 @@ ghost use Rattle.adsc_bench.specs.Showing.{Shows};
 
 use crate::status::Status;
 use adsc_io::{
-    MAX_SCRIPT_BYTES, NoMemory, Sink, Source, WholeEnd, WriteFault, read_whole, write_all,
+    MAX_SCRIPT_BYTES, NoMemory, Sink, Source, WholeEnd, WriteFault, read_whole, whole_lines,
+    write_all,
 };
-use shown_lines::{ShownLines, append_end, show_lines, whole_lines};
+use shown_lines::{ShownLines, append_end, show_lines};
 use std::alloc::Global;
 
 /// Reads texts from the source, one a line, and writes to the sink what each says, or where it is wrong. This project's profile.
 ///
-/// The text of a line that begins with `D,` is a downlink's. Of lines that begin with `U,`, and of texts of the application AFN, no text is shown yet: where
-/// such a line stands before the limit, nothing is written and the status is `NotBuilt`. A line that is refused for any other cause is shown with the code
-/// and the place, and counted. What each status promises is stated by the clause; want of memory alone is free.
+/// The text of a line that begins with `U,` is an uplink's, and of one that begins with `D,` a downlink's. Right texts of the application AFN are not built
+/// yet: where such a line stands before the limit, nothing is written and the status is `NotBuilt`. A line that is refused is shown with the code and the
+/// place, and counted. What each status promises is stated by the clause; want of memory alone is free.
 pub fn show<S: Source, K: Sink>(alloc: Global, source: &mut S, sink: &mut K) -> Status
     ensures { Shows
         (record { left = S.left source.old; read_faults = S.faults source.old; written = K.written sink.old; write_faults = K.faults sink.old })
@@ -48,7 +49,8 @@ struct Output {
     status: Status,
 }
 
-/// What is to be written for these bytes, whose reading ended so, or None exactly where one of their lines is not built.
+/// What is to be written for these bytes, whose reading ended so, or None exactly where one of their lines is a text of the application
+/// AFN, which is not built yet.
 fn output_for(alloc: Global, end: WholeEnd, bytes: &[u8]) -> Result<Option<Output>, NoMemory>
     requires within { length bytes.now ≤ max_script_bytes + 1 }
     requires over { (end ≡ WholeEnd.Over) ↔ (length bytes.now ≡ max_script_bytes + 1) }

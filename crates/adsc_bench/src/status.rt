@@ -16,11 +16,14 @@ pub enum Status {
     ReadFault = 3,
     /// The output could not be written. A beginning of it was.
     WriteFault = 4,
+    /// A line of the script is bad. All lines before it were carried out, and what was written says which line it is and why.
+    BadLine = 5,
     /// There was not enough memory. Nothing was written.
     NoMemory = 6,
-    /// `show` met the limit of lines or bytes, and wrote the shown text of the lines before.
+    /// The limit of lines or bytes was met before any bad line. `run` carried out the lines before and wrote which line is over
+    /// it; `show` wrote the shown text of the lines before.
     Limit = 7,
-    /// The input is of a form that is not built yet. Nothing was written.
+    /// The input has a right line whose form is not built yet. Nothing was written.
     NotBuilt = 8,
 }
 

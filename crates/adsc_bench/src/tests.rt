@@ -16,29 +16,49 @@ fn words_of(alloc: Global, texts: &[&str]) -> Result<Vec<String>, Fail> {
     Ok(words)
 }
 
+/// The status of a run of this script on one worker, and what was written.
+fn run_of(alloc: Global, script: &[u8]) -> Result<(Status, Vec<u8>), Fail> {
+    let words = words_of(alloc, &["run", "1"])?;
+    let mut source = MemSource::new(alloc, script, 1_007, &[])?;
+    let mut sink = MemSink::new(alloc, 1_000, 5, &[])?;
+    let status = top(alloc, words.as_slice(), &mut source, &mut sink);
+    Ok((status, sink.written().to_vec(alloc)?))
+}
+
 #[test]
 fn scripts_are_run(rt: HostRuntime) -> Result<(), Fail> {
     let alloc = rt.alloc();
-    let words = words_of(alloc, &["run", "1"])?;
-    let demand = "U,/AKLCDYA.ADS.N123450701BD4F\n";
-    let table: [(&str, &str, Status, &str); 13] = [
+    let table: [(&str, &str, Status, &str); 14] = [
         (HEAD, "", Status::Done, "J\nL,AKLCDYA,none\nOK\n"),
-        (
-            HEAD,
-            demand,
-            Status::Done,
-            "J,4\nL,AKLCDYA,none\nD,/AKLCDYA.ADS.N12345030107000000000000000000007E26\nOK\n",
-        ),
         (
             HEAD,
             "U,/AKLCDYA.ADS.N123450701BD4F\nU,/AKLCDYA.ADS.N1234507FFB39E",
             Status::Done,
             "J,4,5\nL,AKLCDYA,none\nD,/AKLCDYA.ADS.N12345030107000000000000000000007E26\nD,/AKLCDYA.ADS.N1234503FF070000000000000000000040A1\nOK\n",
         ),
-        // A check that isn't the one that is due, a payload that is no demand, another address, an AFN text, another letter.
         (
             HEAD,
-            "U,/AKLCDYA.ADS.N123450701BD4E\n",
+            "S,-524288,-1048576,-32768,28799,1,7,1,524288,-1048576,-1,16383,-524288,1048575,32767,1,4095,8191,-2048,1,1,2,511,1,256,-2048,5\nU,/AKLCDYA.ADS.N123450701BD4F\nU,/AKLCDYA.ADS.N1234507010BA50BA5F332\nU,x\n",
+            Status::Done,
+            "J,4,5,6\nL,AKLCDYA,none\nD,/AKLCDYA.ADS.N12345030107C0000400002000383F9FE428\nD,/AKLCDYA.ADS.N12345040102059E91\nX,6,REASON-2,32\nX,7,SLASH,0\nOK\n",
+        ),
+        (
+            HEAD,
+            "U,/NFFNDYA.ADS.N123450701BD4F\nU,/AKLCDYA.ADS.N123460701E41F\nU,/AKLCDYA.ADS.N123450701BD4E\n",
+            Status::Done,
+            "J\nL,AKLCDYA,none\nX,4,UNKNOWN,1\nX,5,OTHER,12\nX,6,CHECK,BD4E,BD4F\nOK\n",
+        ),
+        (
+            HEAD,
+            "U,/AKLCDYA.ADS.N123450701BD4F\nT,-1\nT,0\n",
+            Status::BadLine,
+            "J,4\nBAD,5,FIELD,1\n",
+        ),
+        (HEAD, "G,AKLCDYA\n", Status::BadLine, "J\nBAD,4,KIND,0\n"),
+        (HEAD, "T,0\nT,-1\n", Status::NotBuilt, ""),
+        (
+            HEAD,
+            "U,/AKLCDYA.ADS.N123450701BD4F\nU,/AKLCDYA.ADS.N1234507010BA50A3F\n",
             Status::NotBuilt,
             "",
         ),
@@ -50,55 +70,51 @@ fn scripts_are_run(rt: HostRuntime) -> Result<(), Fail> {
         ),
         (
             HEAD,
-            "U,/NFFNDYA.ADS.N123450701BD4F\n",
-            Status::NotBuilt,
-            "",
-        ),
-        (
-            HEAD,
             "U,/AKLCDYA.AFN/FMHANZ1,.N12345/FAK0/FARADS,05087\n",
             Status::NotBuilt,
             "",
         ),
-        (HEAD, "T,0\n", Status::NotBuilt, ""),
-        // First lines of another form, or too few of them.
-        ("", "", Status::NotBuilt, ""),
+        ("", "", Status::BadLine, "J\nBAD,1,HEAD,0\n"),
         (
+            "",
             "A,N12345,ANZ1,C81234\nG,AKLCDYA\n",
-            "",
-            Status::NotBuilt,
-            "",
+            Status::BadLine,
+            "J\nBAD,3,HEAD,0\n",
         ),
         (
-            "A,N12345,ANZ1,C81234\nG,AKLCDYA\nS,1,0,0,0,0,0,0,0,0,0,0,0,0,0,0,0,0,0,0,0,0,0,0,0,0,0\n",
             "",
-            Status::NotBuilt,
-            "",
+            "A,N12345,ANZ1,C81234\nG,AKLCDYA\nS,0,0,0,0,0,0,0,0,0,0,0,0,0,0,0,0,0,0,0,0,0,0,0,0,0\n",
+            Status::BadLine,
+            "J\nBAD,3,COUNT,25\n",
         ),
         (
-            "A,N12345,ANZ1,c81234\nG,AKLCDYA\nS,0,0,0,0,0,0,0,0,0,0,0,0,0,0,0,0,0,0,0,0,0,0,0,0,0,0\n",
             "",
-            Status::NotBuilt,
-            "",
-        ),
-        (
             "A,N12345,ANZ1,C81234\nG,AKLCDYA,NFFNDYA\nS,0,0,0,0,0,0,0,0,0,0,0,0,0,0,0,0,0,0,0,0,0,0,0,0,0,0\n",
-            "",
             Status::NotBuilt,
             "",
         ),
     ];
     for (head, lines, status, output) in table {
         let script = format!(in alloc; "{head}{lines}")?;
-        let mut source = MemSource::new(alloc, script.as_bytes(), 7, &[])?;
-        let mut sink = MemSink::new(alloc, 1_000, 5, &[])?;
-        assert_eq!(rt;
-            top(alloc, words.as_slice(), &mut source, &mut sink),
-            status,
-            "at {lines}"
-        );
-        assert_eq!(rt; sink.written(), output.as_bytes(), "at {lines}");
+        let (found, written) = run_of(alloc, script.as_bytes())?;
+        assert_eq!(rt; found, status, "at {lines}");
+        assert_eq!(rt; written.as_slice(), output.as_bytes(), "at {lines}");
     }
+    Ok(())
+}
+
+#[test]
+fn the_limit_ends_a_run(rt: HostRuntime) -> Result<(), Fail> {
+    let alloc = rt.alloc();
+    let mut script = HEAD.as_bytes().to_vec(alloc)?;
+    script.extend_from_slice(b"U,/AKLCDYA.ADS.N123450701BD4F\n")?;
+    for _ in 0..199_996 {
+        script.extend_from_slice(b"U,x\n")?;
+    }
+    script.extend_from_slice(b"T,-1")?;
+    let (status, written) = run_of(alloc, script.as_slice())?;
+    assert_eq!(rt; status, Status::Limit);
+    assert_eq!(rt; written.as_slice(), b"J,4\nLIMIT,200001\n".as_slice());
     Ok(())
 }
 
@@ -130,24 +146,21 @@ fn other_words_read_and_write_nothing(rt: HostRuntime) -> Result<(), Fail> {
 #[test]
 fn faults_end_a_run(rt: HostRuntime) -> Result<(), Fail> {
     let alloc = rt.alloc();
-    let words = words_of(alloc, &["run", "1"])?;
-    let mut source = MemSource::new(alloc, HEAD.as_bytes(), 100, &[1])?;
-    let mut sink = MemSink::new(alloc, 100, 100, &[])?;
-    assert_eq!(rt;
-        top(alloc, words.as_slice(), &mut source, &mut sink),
-        Status::ReadFault
-    );
-    assert_eq!(rt; source.faults(), 1);
-    assert_eq!(rt; sink.written(), b"".as_slice());
-
-    let mut source = MemSource::new(alloc, HEAD.as_bytes(), 100, &[])?;
-    let mut sink = MemSink::new(alloc, 100, 1, &[2])?;
-    assert_eq!(rt;
-        top(alloc, words.as_slice(), &mut source, &mut sink),
-        Status::WriteFault
-    );
-    assert_eq!(rt; sink.faults(), 1);
-    assert_eq!(rt; sink.written(), b"J".as_slice());
+    // A source that can't be read, with a whole script and with none; and a sink that takes one byte.
+    let table: [(&str, &[u64], &[u64], Status, &str); 4] = [
+        (HEAD, &[1], &[], Status::ReadFault, ""),
+        ("", &[1], &[], Status::ReadFault, ""),
+        (HEAD, &[], &[2], Status::WriteFault, "J"),
+        ("T,-1", &[], &[2], Status::WriteFault, "J"),
+    ];
+    for (script, reads, writes, status, output) in table {
+        let mut source = MemSource::new(alloc, script.as_bytes(), 100, reads)?;
+        let mut sink = MemSink::new(alloc, 100, 1, writes)?;
+        assert_eq!(rt; run(alloc, &mut source, &mut sink), status);
+        assert_eq!(rt; source.faults(), reads.len() as u64);
+        assert_eq!(rt; sink.faults(), writes.len() as u64);
+        assert_eq!(rt; sink.written(), output.as_bytes());
+    }
     Ok(())
 }
 
@@ -155,7 +168,7 @@ fn faults_end_a_run(rt: HostRuntime) -> Result<(), Fail> {
 fn texts_are_shown(rt: HostRuntime) -> Result<(), Fail> {
     let alloc = rt.alloc();
     let words = words_of(alloc, &["show"])?;
-    let table: [(&str, Status, &str); 5] = [
+    let table: [(&str, Status, &str); 7] = [
         (
             "D,/AKLCDYA.ADS.N12345030107000000000000000000007E26\nhello\n",
             Status::Refused,
@@ -166,9 +179,19 @@ fn texts_are_shown(rt: HostRuntime) -> Result<(), Fail> {
             Status::Done,
             "line,1,D,AKLCDYA,ADS,.N12345\nack,1\nend,1,0\n",
         ),
+        (
+            "U,/AKLCDYA.ADS.N123450701BD4F\n",
+            Status::Done,
+            "line,1,U,AKLCDYA,ADS,.N12345\nperiodic,1\nend,1,0\n",
+        ),
+        (
+            "U,/AKLCDYA.ADS.N1234507010BA50BA5F332\n",
+            Status::Refused,
+            "line,1,refused,REASON-2,32\nend,1,1\n",
+        ),
         ("", Status::Done, "end,0,0\n"),
         (
-            "hello\nU,/AKLCDYA.ADS.N123450701BD4F\n",
+            "hello\nU,/AKLCDYA.AFN/FMHANZ1,.N12345/FAK0/FARADS,05087\n",
             Status::NotBuilt,
             "",
         ),
@@ -194,16 +217,26 @@ fn texts_are_shown(rt: HostRuntime) -> Result<(), Fail> {
 #[test]
 fn faults_end_a_showing(rt: HostRuntime) -> Result<(), Fail> {
     let alloc = rt.alloc();
-    let table: [(&str, &str); 3] = [
+    let table: [(&str, usize, &str); 4] = [
         (
             "ab\ncd\nef",
+            7,
             "line,1,refused,FORM,0\nline,2,refused,FORM,0\n",
         ),
-        ("U,\ncd\nef", ""),
-        ("abcdefgh", ""),
+        (
+            "U,\ncd\nef",
+            7,
+            "line,1,refused,SHORT,0\nline,2,refused,FORM,0\n",
+        ),
+        (
+            "cd\nU,/AKLCDYA.AFN/FMHANZ1,.N12345/FAK0/FARADS,05087\nef",
+            54,
+            "",
+        ),
+        ("abcdefgh", 7, ""),
     ];
-    for (lines, output) in table {
-        let mut source = MemSource::new(alloc, lines.as_bytes(), 7, &[2])?;
+    for (lines, piece, output) in table {
+        let mut source = MemSource::new(alloc, lines.as_bytes(), piece, &[2])?;
         let mut sink = MemSink::new(alloc, 100, 100, &[])?;
         assert_eq!(rt;
             show(alloc, &mut source, &mut sink),
@@ -231,7 +264,11 @@ fn the_limit_ends_a_showing(rt: HostRuntime) -> Result<(), Fail> {
     }
     let table: [(&[u8], Status, &[u8]); 2] = [
         (b"", Status::Refused, b"end,200000,200000\n"),
-        (b"U,", Status::Limit, b"line,200000,refused,FORM,0\n"),
+        (
+            b"U,/AKLCDYA.AFN/FMHANZ1,.N12345/FAK0/FARADS,05087",
+            Status::Limit,
+            b"line,200000,refused,FORM,0\n",
+        ),
     ];
     for (more, status, last) in table {
         let mut input = lines.clone()?;

@@ -1,3 +1,4 @@
+pub mod InputLaws
 pub mod Joined
 pub mod LimitsTied
 pub mod LinesLaws

@@ -1,4 +1,5 @@
 pub mod Causes
+pub mod Inputs
 pub mod Limits
 pub mod Lines
 pub mod Memory

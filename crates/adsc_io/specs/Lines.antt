@@ -13,6 +13,10 @@ script_lines [] = []
 script_lines (byte ∷ bytes) =
     if byte == newline then [] ∷ script_lines bytes else onto_first byte (script_lines bytes)
 
+-- a text and the newline that ends it
+abbrev pub ended : List ℕ → List ℕ
+ended text = text ++ newline ∷ []
+
 -- these lines as bytes, each ended by a newline
 abbrev pub ended_lines : List (List ℕ) → List ℕ
 ended_lines [] = []

@@ -26,6 +26,19 @@ fn lines_of_inputs(rt: HostRuntime) {
 }
 
 #[test]
+fn whole_lines_end_at_the_last_newline(rt: HostRuntime) {
+    let table: [(&[u8], &[u8]); 4] = [
+        (b"", b""),
+        (b"a", b""),
+        (b"a\nb", b"a\n"),
+        (b"a\n\n", b"a\n\n"),
+    ];
+    for (bytes, whole) in table {
+        assert_eq!(rt; whole_lines(bytes), whole);
+    }
+}
+
+#[test]
 fn bytes_pass_in_pieces(rt: HostRuntime) -> Result<(), Fail> {
     let alloc = rt.alloc();
     let text: &[u8] = b"A,GRND001\nS,0";

@@ -1,3 +1,10 @@
-pub mod AnswersLaws
-pub mod DownlinksLaws
-pub mod LinesOfDownlinks
+pub mod AnswerLaws
+pub mod CodesLaws
+pub mod FlightLaws
+pub mod GroupsLaws
+pub mod JournalLaws
+pub mod OneList
+pub mod QuietLaws
+pub mod SizeLaws
+pub mod TakingLaws
+pub mod TextLaws

@@ -1,46 +1,67 @@
--- The downlinks that the entries of a journal make due.
--- The items and their tags are those of RTCA DO-258A / EUROCAE ED-100A; that one entry makes one text is this project's profile.
-use Rattle.std.specs.Prelude.{ℕ, ◌==◌, List, [], ◌∷◌, ◌++◌, map}
-use Rattle.std.specs.List.{filter}
+-- The downlinks that the entries of a journal make due. What is due is said by the contract rules; the items and their encoding
+-- are those of RTCA DO-258A / EUROCAE ED-100A; that an entry with items makes one text is this project's profile.
+use Rattle.std.specs.Prelude.{◌≡◌, ◌⊎◌, ℕ, List, [], ◌∷◌, ◌++◌, map}
 use Rattle.adsc_bits.specs.Packing.{octets_of}
-use Rattle.adsc_downlink.specs.Items.{ItemData, downlink_bits}
-use Rattle.adsc_downlink.specs.Items.ItemData.{ack, report}
+use Rattle.adsc_downlink.specs.Items.{downlink_bits}
 use Rattle.acars_envelope.specs.declared.texts.Body.TheVariants.{Ads}
 use Rattle.acars_envelope.specs.Texts.{sealed_text}
-use Rattle.flight_samples.specs.declared.sample.Sample.{Sample}
-use Rattle.adsc_io.specs.Lines.{newline, ended_lines}
+use Rattle.contract_rules.specs.Acts.{Act, Said, Malformed, Moved}
+use Rattle.contract_rules.specs.Due.{Item, history_items}
+use Rattle.adsc_requests.specs.Grammar.{EncodesUplink}
+use Rattle.adsc_requests.specs.Refusals.{IsFirstUplinkFault}
+use Rattle.adsc_requests.specs.declared.message.Uplink.{Uplink as UplinkMessages}
+use Rattle.adsc_requests.specs.declared.refusal.Refusal.{Refusal}
+use Rattle.flight_samples.specs.declared.sample.Sample.{Sample as FlightSample}
 use Rattle.aircraft_core.specs.declared.entry.Entry.{Entry}
-use Rattle.aircraft_core.specs.Entries.{link_of, payload_of, demand_number}
-use Rattle.aircraft_core.specs.Reports.{basic_data_of}
+use Rattle.aircraft_core.specs.declared.entry.Entry.TheVariants.{Uplink, Sample}
+use Rattle.aircraft_core.specs.Acts.{rules_message, rules_fault, rules_sample}
+use Rattle.aircraft_core.specs.Entries.{latest_after}
+use Rattle.aircraft_core.specs.Reports.{item_on}
 use Rattle.aircraft_core.specs.Setting.{Setting, address_of}
 
--- The answer to a demand: an acknowledgement of its number, and then a basic report on the sample, without groups.
-abbrev pub answer_items : ℕ → Sample → List ItemData
-answer_items number sample =
-    ack number ∷ report (record { tag = 7; basic = basic_data_of sample; groups = [] }) ∷ []
+-- ---- the acts of a journal
 
--- the octets of that answer, in which padding is zeros
-abbrev pub answer_octets : ℕ → Sample → List ℕ
-answer_octets number sample = octets_of (downlink_bits (answer_items number sample))
+-- The acts of an uplink on a link: each message that its payload encodes is said; a payload with a fault is one malformed act.
+abbrev pub UplinkActs : ℕ → List ℕ → List Act → Type 0
+UplinkActs link payload acts =
+    ((uplink : UplinkMessages) × EncodesUplink uplink payload × (acts ≡ map (λ message. Said link (rules_message message)) uplink.messages.items))
+    ⊎ ((refusal : Refusal) × IsFirstUplinkFault refusal payload × (acts ≡ Malformed link (rules_fault refusal) ∷ []))
 
--- the downlink that a demand makes due: its answer in an envelope of the aircraft, to the ground address of its link
-abbrev pub downlink_text : Setting → Entry → List ℕ
-downlink_text setting entry =
-    sealed_text (address_of setting (link_of entry))
-    (Ads setting.registration (record { items = answer_octets (demand_number (payload_of entry)) setting.first }))
+-- The acts of an entry, where this is the latest sample before it.
+abbrev pub EntryActs : FlightSample → Entry → List Act → Type 0
+EntryActs latest (Uplink line link bytes) acts = UplinkActs link bytes.items acts
+EntryActs latest (Sample line sample) acts = acts ≡ Moved (rules_sample latest) (rules_sample sample) ∷ []
 
--- the entries of a link, in their order
-abbrev pub own_entries : List Entry → ℕ → List Entry
-own_entries journal link = filter (λ entry. link_of entry == link) journal
+-- The acts of the entries of a journal, a list for each entry, where this is the latest sample before them.
+abbrev pub JournalActs : FlightSample → List Entry → List (List Act) → Type 0
+JournalActs latest [] acts = acts ≡ []
+JournalActs latest (entry ∷ entries) [] = ⊥
+JournalActs latest (entry ∷ entries) (acts ∷ others) = EntryActs latest entry acts × JournalActs (latest_after latest entry) entries others
 
--- the downlinks of a link: one text for each of its entries, in the order of the journal
-abbrev pub downlink_texts : Setting → List Entry → ℕ → List (List ℕ)
-downlink_texts setting journal link = map (downlink_text setting) (own_entries journal link)
+-- ---- their downlinks
 
--- a text and the newline that ends it
-abbrev pub ended : List ℕ → List ℕ
-ended text = text ++ newline ∷ []
+-- the octets of items, in which padding is zeros
+abbrev pub payload_of_items : Setting → FlightSample → List Item → List ℕ
+payload_of_items setting sample items = octets_of (downlink_bits (map (item_on setting sample) items))
 
--- the downlinks of a link as one text, each ended by a newline
-abbrev pub downlinks_of : Setting → List Entry → ℕ → List ℕ
-downlinks_of setting journal link = ended_lines (downlink_texts setting journal link)
+-- the text of these items: an envelope of the aircraft to the ground address of the link
+unfoldable pub text_of_items : Setting → ℕ → FlightSample → List Item → List ℕ
+text_of_items setting link sample items =
+    sealed_text (address_of setting link) (Ads setting.registration (record { items = payload_of_items setting sample items }))
+
+-- an entry makes one text where some item is due, and none where none is
+abbrev pub entry_texts : Setting → ℕ → FlightSample → List Item → List (List ℕ)
+entry_texts setting link sample [] = []
+entry_texts setting link sample (item ∷ items) = text_of_items setting link sample (item ∷ items) ∷ []
+
+-- the texts of entries, for each of which these items are due; a report is on the latest sample, the entry's own included
+abbrev pub journal_texts : Setting → ℕ → FlightSample → List Entry → List (List Item) → List (List ℕ)
+journal_texts setting link latest (entry ∷ entries) (items ∷ others) =
+    entry_texts setting link (latest_after latest entry) items ++ journal_texts setting link (latest_after latest entry) entries others
+journal_texts setting link latest _ _ = []
+
+-- These texts are the downlinks of the journal on the link: those of the items that the contract rules make due at each entry.
+pub record AreDownlinks (setting : Setting) (journal : List Entry) (link : ℕ) (texts : List (List ℕ)) : Type 0 where
+  pub acts : List (List Act)
+  pub are_acts : JournalActs setting.first journal acts
+  pub spelled : texts ≡ journal_texts setting link setting.first journal (history_items link [] acts)

@@ -1,28 +1,44 @@
 -- The entries of a journal (this project's profile).
-use Rattle.std.specs.Prelude.{◌≡◌, ℕ, List, [], ◌∷◌, slice_index}
+use Rattle.std.specs.Prelude.{◌≡◌, ℕ, ◌<◌, Bool, true, List, length}
+use Rattle.std.specs.List.{list_all}
+use Rattle.contract_rules.specs.Messages.{Demand, is_request_of}
+use Rattle.adsc_requests.specs.declared.message.Message.{Message}
+use Rattle.adsc_requests.specs.declared.message.Uplink.{Uplink as UplinkMessages}
+use Rattle.adsc_requests.specs.Grammar.{EncodesUplink}
+use Rattle.flight_samples.specs.declared.sample.Sample.{Sample as FlightSample}
 use Rattle.aircraft_core.specs.declared.entry.Entry.{Entry}
-use Rattle.aircraft_core.specs.declared.entry.Entry.TheVariants.{Uplink}
+use Rattle.aircraft_core.specs.declared.entry.Entry.TheVariants.{Uplink, Sample}
+use Rattle.aircraft_core.specs.Acts.{rules_message}
+use Rattle.aircraft_core.specs.Setting.{Setting}
 
 -- the number of the line that brought the entry
 abbrev pub line_of : Entry → ℕ
 line_of (Uplink line link bytes) = line
+line_of (Sample line sample) = line
 
--- the link of the entry, by its place among the aircraft's links
-abbrev pub link_of : Entry → ℕ
-link_of (Uplink line link bytes) = link
+-- the entry is of one of the aircraft's links, or of none
+abbrev pub IsOfLinks : Setting → Entry → Type 0
+IsOfLinks setting (Uplink line link bytes) = link < length setting.addresses
+IsOfLinks setting (Sample line sample) = Unit {0}
 
--- the octets of the uplink
-abbrev pub payload_of : Entry → List ℕ
-payload_of (Uplink line link bytes) = bytes.items
+-- the latest sample after the entry: its own, where it is a sample
+abbrev pub latest_after : FlightSample → Entry → FlightSample
+latest_after latest (Uplink line link bytes) = latest
+latest_after latest (Sample line sample) = sample
 
--- A demand: a periodic request of tag 7 with this number, and no group (RTCA DO-258A / EUROCAE ED-100A).
-abbrev pub demand_payload : ℕ → List ℕ
-demand_payload number = 7 ∷ number ∷ []
+-- whether a message is a demand: a periodic request whose interval is absent or 0 s
+abbrev pub is_demand : Message → Bool
+is_demand message = is_request_of Demand (rules_message message)
 
--- the number of a demand stands behind its tag
-abbrev pub demand_number : List ℕ → ℕ
-demand_number payload = slice_index payload 1
+-- whether all messages of an uplink are demands
+abbrev pub are_demands : UplinkMessages → Bool
+are_demands uplink = list_all is_demand uplink.messages.items
 
--- the uplink is a demand, and nothing else
-abbrev pub IsDemand : Entry → Type 0
-IsDemand entry = payload_of entry ≡ demand_payload (demand_number (payload_of entry))
+-- What is built so far: a payload that can be read asks for demands alone.
+abbrev pub IsBuiltPayload : List ℕ → Type 0
+IsBuiltPayload payload = (uplink : UplinkMessages) → EncodesUplink uplink payload → are_demands uplink ≡ true
+
+-- the entry is of a form that is built so far
+abbrev pub IsBuilt : Entry → Type 0
+IsBuilt (Uplink line link bytes) = IsBuiltPayload bytes.items
+IsBuilt (Sample line sample) = Unit {0}

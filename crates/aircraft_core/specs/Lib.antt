@@ -1,6 +1,9 @@
 pub mod Aircraft
+pub mod Acts
 pub mod CraftFields
 pub mod Downlinks
 pub mod Entries
+pub mod Quiet
 pub mod Reports
 pub mod Setting
+pub mod Taking

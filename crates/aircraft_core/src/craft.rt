@@ -1,15 +1,16 @@
 //! The aircraft's side of its links.
-ghost use Rattle.std.specs.Prelude.{◌≡◌, ℕ, ◌+◌, ◌<◌, ◌≤◌, List, [], ◌∷◌, ◌++◌, length, OnOk, OnErr, IfOk, slice_index_or};
-ghost use Rattle.adsc_io.specs.Lines.{script_lines};
-ghost use Rattle.aircraft_core.specs.Entries.{IsDemand, demand_number as number_of_demand, link_of, payload_of};
-ghost use Rattle.aircraft_core.specs.Downlinks.{downlink_texts, downlinks_of};
+ghost use Rattle.std.specs.Prelude.{◌≡◌, ◌+◌, ◌<◌, ◌≤◌, [], ◌∷◌, ◌++◌, length, OnOk, IfOk};
+ghost use Rattle.adsc_io.specs.Lines.{ended_lines, script_lines};
+ghost use Rattle.aircraft_core.specs.Entries.{IsBuilt, IsOfLinks};
+ghost use Rattle.aircraft_core.specs.Downlinks.{AreDownlinks};
 ghost use Rattle.aircraft_core.specs.Setting.{address_of};
 
-use crate::downlink::downlink;
 use crate::entry::Entry;
-use crate::room::{append_ended, enter};
+use crate::room::enter;
+use crate::setup::Setup;
+use crate::taking::take;
 use crate::who::Who;
-use acars_envelope::Address;
+use acars_envelope::{Address, Registration};
 use adsc_io::NoMemory;
 use flight_samples::Sample;
 use std::alloc::Global;
@@ -24,16 +25,14 @@ const ENTRY_BYTES: usize = 600;
 /// That each outbox is the downlinks of the journal is kept by the type.
 #[derive(Drop)]
 pub struct Craft {
-    who: Who,
-    address: Address,
-    first: Sample,
+    setup: Setup,
+    latest: Sample,
+    live: bool,
     journal: Vec<Entry>,
     outbox: Vec<u8>,
 }
 
 impl Model for Craft {
-    ghost use Rattle.std.specs.Prelude.{◌≡◌, ◌-◌, ◌/◌, [], ◌∷◌, min};
-    ghost use Rattle.std.specs.Vec.{vec_len, vec_capacity};
     ghost use Rattle.aircraft_core.specs.Aircraft.{Aircraft};
 
     ghost Value = { Aircraft };
@@ -60,9 +59,9 @@ impl Craft {
         ensures empty { IfOk result (λ craft. craft.journal ≡ []) }
     {
         Ok(Craft {
-            who,
-            address: links[0],
-            first,
+            setup: Setup::new(who, links[0], first),
+            latest: first,
+            live: false,
             journal: Vec::new(alloc),
             outbox: Vec::new(alloc),
         })
@@ -80,25 +79,25 @@ impl Craft {
         Ok(())
     }
 
-    /// Enters an entry at the end of the journal, and adds the downlinks that it makes due to the outboxes.
+    /// Enters an entry at the end of the journal, and adds the downlink that it makes due to the outbox.
     ///
-    /// Room is kept for it, its link is one of the aircraft's, and its payload is a demand. It takes no memory and can't
-    /// be refused.
+    /// Room is kept for it, its link is one of the aircraft's, and a payload that can be read asks for demands alone. It
+    /// takes no memory and can't be refused.
     pub fn apply(&mut self, entry: Entry)
         requires room { 0 < self.old.spare }
-        requires link { link_of entry < length self.old.setting.addresses }
-        requires demand { IsDemand entry }
+        requires link { IsOfLinks self.old.setting entry }
+        requires built { IsBuilt entry }
         ensures journal { self.new.journal ≡ self.old.journal ++ entry ∷ [] }
         ensures setting { self.new.setting ≡ self.old.setting }
         ensures spare { self.old.spare ≤ self.new.spare + 1 }
     {
-        let text = downlink(
-            self.address,
-            self.who.registration,
-            demand_number(&entry),
-            &self.first,
+        take(
+            &self.setup,
+            &mut self.latest,
+            &mut self.live,
+            &mut self.outbox,
+            &entry,
         );
-        append_ended(&mut self.outbox, text.as_slice());
         enter(&mut self.journal, entry);
     }
 
@@ -106,7 +105,7 @@ impl Craft {
     pub fn links(&self) -> usize
         ensures { result ≡ length self.now.setting.addresses }
     {
-        [self.address].len()
+        [self.setup.address()].len()
     }
 
     /// The ground address of a link.
@@ -114,7 +113,14 @@ impl Craft {
         requires { link < length self.now.setting.addresses }
         ensures { result ≡ address_of self.now.setting link }
     {
-        self.address
+        self.setup.address()
+    }
+
+    /// The aircraft's registration (ARINC 622).
+    pub fn registration(&self) -> Registration
+        ensures { result ≡ self.now.setting.registration }
+    {
+        self.setup.registration()
     }
 
     /// The entries so far, in the order in which they came.
@@ -127,21 +133,9 @@ impl Craft {
     /// The downlinks of a link, each ended by a newline, which stands in none of them.
     pub fn outbox(&self, link: usize) -> &[u8]
         requires { link < length self.now.setting.addresses }
-        ensures bytes { result.now ≡ downlinks_of self.now.setting self.now.journal link }
-        ensures texts { script_lines result.now ≡ downlink_texts self.now.setting self.now.journal link }
+        ensures texts { AreDownlinks self.now.setting self.now.journal link (script_lines result.now) }
+        ensures ended { result.now ≡ ended_lines (script_lines result.now) }
     {
-        let _registration = self.who.registration.seven();
-        let _address = self.address.seven();
         self.outbox.as_slice()
-    }
-}
-
-/// The number of a demand.
-fn demand_number(entry: &Entry) -> u8
-    requires { IsDemand entry.now }
-    ensures { result ≡ number_of_demand (payload_of entry.now) }
-{
-    match entry {
-        Entry::Uplink { bytes, .. } => bytes.as_slice()[1],
     }
 }

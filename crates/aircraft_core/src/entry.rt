@@ -16,4 +16,11 @@ pub enum Entry {
         /// The payload: 1 to 255 octets.
         bytes: ArrayVec<u8, 255>,
     },
+    /// A flight sample that the avionics gave.
+    Sample {
+        /// The number of the script's line, counted from 1.
+        line: u32,
+        /// What the avionics know from then on.
+        sample: flight_samples::Sample,
+    },
 }

@@ -1,7 +1,7 @@
 //! Vectors that have room.
 ghost use Rattle.std.specs.Prelude.{◌≡◌, ◌+◌, ◌<◌, ◌≤◌, [], ◌∷◌, ◌++◌, length};
 ghost use Rattle.std.specs.Vec.{vec_len, vec_capacity};
-ghost use Rattle.aircraft_core.specs.Downlinks.{ended};
+ghost use Rattle.adsc_io.specs.Lines.{ended};
 
 use crate::entry::Entry;
 

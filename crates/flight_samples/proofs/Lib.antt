@@ -4,3 +4,4 @@ pub mod ColumnLemmas
 pub mod Readings
 pub mod DecimalTexts
 pub mod SampleTexts
+pub mod SameSamples

@@ -1,12 +1,12 @@
 -- A line has one first fault.
-use Rattle.std.proofs.Common.{◌≡◌, ◌≢◌, ◌⊎◌, ℕ, Result, Ok, Err, IfOk, IfErr, MatchResult, List, length, refl, sym, ap, ◌∙◌, subst, arith, inl, inr}
+use Rattle.std.proofs.Common.{◌≡◌, ◌≢◌, ◌⊎◌, ℕ, Result, Ok, Err, IfOk, IfErr, List, length, refl, sym, ap, ◌∙◌, subst, arith, inl, inr}
 use Rattle.std.proofs.lemmas.Bool.{cases_order}
 use Rattle.net_script.specs.Bytes.{IsFirstBarred}
 use Rattle.net_script.specs.Counts.{HasCount}
 use Rattle.net_script.specs.Faults.{IsByteFault, IsContentFault, IsCountFault, IsFieldsFault, IsFirstLineFault, IsFirstTwice, IsFirstWrong, IsLineRefusal}
 use Rattle.net_script.specs.Fields.{fields_of}
 use Rattle.net_script.specs.Forms.{Form}
-use Rattle.net_script.specs.Lines.{IsSameValue, IsScriptLine, form_at}
+use Rattle.net_script.specs.Lines.{IsScriptLine, form_at}
 use Rattle.net_script.specs.declared.letter.Letter.{Letter}
 use Rattle.net_script.specs.declared.letter.Letter.TheVariants.{Uplink}
 use Rattle.net_script.specs.declared.line.ScriptLine.{ScriptLine}
@@ -96,9 +96,9 @@ fault_same line a b m n one other = content_fault_same line a b m n one other
 
 -- where the line says this
 pub reads : (line : List ℕ) (r : Result ScriptLine LineRefusal) → IfOk r (λ value. IsScriptLine value line) → IfErr r (IsLineRefusal line)
-    → (value : ScriptLine) → IsScriptLine value line → MatchResult r (λ found. IsSameValue found value) (λ e. e ≡ NoMemory)
-reads line (Ok found) ok refused value is = one_value line found value ok is
-reads line (Err NoMemory) ok refused value is = refl
+    → (value : ScriptLine) → IsScriptLine value line → (r ≡ Ok value) ⊎ (r ≡ Err NoMemory)
+reads line (Ok found) ok refused value is = inl (ap (λ (v : ScriptLine). Ok v) (one_value line found value ok is))
+reads line (Err NoMemory) ok refused value is = inr refl
 reads line (Err (Bad fault n)) ok refused value is = absurd (no_fault value line fault n is refused)
 
 -- where the line has this fault

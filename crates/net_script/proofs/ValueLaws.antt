@@ -1,8 +1,10 @@
 -- A line says one thing.
-use Rattle.std.proofs.Common.{◌≡◌, ◌^◌, ◌<◌, ◌==◌, ℕ, ℤ, pos, Bool, true, false, Option, Some, None, List, [], ◌∷◌, length, drop, get_or, refl, sym, ap, ◌∙◌, subst, arith}
+use Rattle.std.proofs.Common.{◌≡◌, ◌^◌, ◌<◌, ◌==◌, ℕ, ℤ, pos, Bool, true, false, Option, Some, None, List, [], ◌∷◌, length, drop, get_or, refl, sym, ap, ap₂, ◌∙◌, subst, arith}
 use Rattle.std.specs.Prelude.{codes, if◌then◌else◌}
 use Rattle.std.specs.Int.{to_be_bytes, w32}
+use Rattle.std.proofs.Props.{props}
 use Rattle.std.proofs.lemmas.List.{same_lists, get_or_default}
+use Rattle.acars_envelope.specs.Texts.{six_digits}
 use Rattle.acars_envelope.proofs.DigitsLaws.{same_octets}
 use Rattle.adsc_requests.specs.Contents.{contents_of}
 use Rattle.adsc_requests.specs.Grammar.{EncodesUplink}
@@ -15,9 +17,11 @@ use Rattle.flight_samples.specs.SampleText.{AreSampleValues, column_count}
 use Rattle.flight_samples.specs.Samples.{values_of}
 use Rattle.flight_samples.specs.declared.sample.Sample.{Sample}
 use Rattle.flight_samples.proofs.DecimalLemmas.{integer_text_same}
+use Rattle.flight_samples.proofs.SameSamples.{same_sample}
 use Rattle.net_script.specs.Fields.{field_at, fields_of}
-use Rattle.net_script.specs.Forms.{IsCancelText, IsNumberOf, IsRequestText, six_digits}
-use Rattle.net_script.specs.Lines.{IsAddressed, IsSameValue, IsScriptLine, Says, letter_of}
+use Rattle.net_script.specs.Forms.{IsCancelText, IsNumberOf, IsRequestText}
+use Rattle.net_script.specs.Listing.{AddressList}
+use Rattle.net_script.specs.Lines.{IsAddressed, IsScriptLine, Says, letter_of}
 use Rattle.net_script.specs.declared.limits.TheConstants.{MAX_TIME, MAX_PLACE}
 use Rattle.net_script.specs.declared.line.Cancel.{Cancel}
 use Rattle.net_script.specs.declared.line.Cancel.TheVariants.{Of, EmergencyMode, All}
@@ -87,6 +91,10 @@ request_same a b text one other =
     let uplink = same_contents one.uplink other.uplink contents in
     sole_same a b one.uplink.messages.items one.sole (ap (λ (u : Uplink). u.messages.items) uplink ∙ other.sole)
 
+-- lists with the same addresses are equal
+same_list : (a b : AddressList) → a.items ≡ b.items → a ≡ b
+same_list a b same = ap (λ (items : List (List ℕ)). let made : AddressList = record { items = items } in made) same
+
 -- ---- lines by their fields
 
 address_same : (fields : List (List ℕ)) (a b : List ℕ) → IsAddressed fields a → IsAddressed fields b → a ≡ b
@@ -94,51 +102,71 @@ address_same fields a b one other = sym one.written ∙ other.written
 
 -- the fields of a line of one letter say one thing
 abbrev SaysOne : ScriptLine → Type 0
-SaysOne value = (other : ScriptLine) (fields : List (List ℕ)) → letter_of other ≡ letter_of value → Says value fields → Says other fields → IsSameValue value other
+SaysOne value = (other : ScriptLine) (fields : List (List ℕ)) → letter_of other ≡ letter_of value → Says value fields → Says other fields → value ≡ other
+
+make_who : (registration flight : List ℕ) (airframe : ℕ) → airframe < 2 ^ 24 → Who
+make_who registration flight airframe size = record { registration = registration; flight = flight; airframe = airframe; address_size = size }
+
+-- who an aircraft is, by the three names
+same_who : (a b : Who) → a.registration ≡ b.registration → a.flight ≡ b.flight → a.airframe ≡ b.airframe → a ≡ b
+unfolding make_who
+same_who a b registration flight airframe =
+    subst (λ (x : List ℕ × List ℕ × ℕ). (size : x.2 < 2 ^ 24) → a ≡ make_who x.0 x.1 x.2 size) (λ i. (registration i, flight i, airframe i))
+    (λ size. ap (make_who a.registration a.flight a.airframe) (one a.address_size size)) b.address_size
+  where
+    one : IsProp (a.airframe < 2 ^ 24)
+    one = hlevel props
 
 one_aircraft : (who : Who) → SaysOne (line.A who)
-one_aircraft who (line.A other) fields same one two = (one.dotted ∙ sym two.dotted, sym one.flight_written ∙ two.flight_written, airframe_same who.airframe other.airframe one.is_airframe two.is_airframe (sym one.airframe_written ∙ two.airframe_written))
+one_aircraft who (line.A other) fields same one two =
+    ap (λ (w : Who). line.A w) (same_who who other (one.dotted ∙ sym two.dotted) (sym one.flight_written ∙ two.flight_written)
+    (airframe_same who.airframe other.airframe one.is_airframe two.is_airframe (sym one.airframe_written ∙ two.airframe_written)))
 one_aircraft who other fields same one two = absurd (cc)
 
 one_sample : (sample : Sample) → SaysOne (line.S sample)
-one_sample sample (line.S other) fields same one two = values_same (drop 1 fields) (values_of sample) (values_of other) one two
+one_sample sample (line.S other) fields same one two =
+    ap (λ (s : Sample). line.S s) (same_sample sample other (values_same (drop 1 fields) (values_of sample) (values_of other) one two))
 one_sample sample other fields same one two = absurd (cc)
 
 one_time : (time : ℕ) → SaysOne (line.T time)
-one_time time (line.T other) fields same one two = number_same 0 MAX_TIME time other (field_at fields 1) one two
+one_time time (line.T other) fields same one two = ap (λ (n : ℕ). line.T n) (number_same 0 MAX_TIME time other (field_at fields 1) one two)
 one_time time other fields same one two = absurd (cc)
 
 one_emergency : (on : Bool) → SaysOne (line.E on)
-one_emergency on (line.E other) fields same one two = switch_same on other (field_at fields 1) one two
+one_emergency on (line.E other) fields same one two = ap (λ (b : Bool). line.E b) (switch_same on other (field_at fields 1) one two)
 one_emergency on other fields same one two = absurd (cc)
 
 one_logon : (address : List ℕ) → SaysOne (line.L address)
-one_logon address (line.L other) fields same one two = address_same fields address other one two
+one_logon address (line.L other) fields same one two = ap (λ (a : List ℕ). line.L a) (address_same fields address other one two)
 one_logon address other fields same one two = absurd (cc)
 
 one_uplink : (from : ℕ) → SaysOne (line.U from)
-one_uplink from (line.U other) fields same one two = one ∙ sym two
+one_uplink from (line.U other) fields same one two = ap (λ (n : ℕ). line.U n) (one ∙ sym two)
 one_uplink from other fields same one two = absurd (cc)
 
 one_request : (address : List ℕ) (asked : Message) → SaysOne (line.C address asked)
-one_request address asked (line.C other next) fields same one two = (address_same fields address other one.0 two.0, request_same asked next (field_at fields 2) one.1 two.1)
+one_request address asked (line.C other next) fields same one two =
+    ap₂ (λ (a : List ℕ) (m : Message). line.C a m) (address_same fields address other one.0 two.0) (request_same asked next (field_at fields 2) one.1 two.1)
 one_request address asked other fields same one two = absurd (cc)
 
 one_cancel : (address : List ℕ) (cancel : Cancel) → SaysOne (line.K address cancel)
-one_cancel address cancel (line.K other next) fields same one two = (address_same fields address other one.0 two.0, cancel_same cancel next (field_at fields 2) one.1 two.1)
+one_cancel address cancel (line.K other next) fields same one two =
+    ap₂ (λ (a : List ℕ) (c : Cancel). line.K a c) (address_same fields address other one.0 two.0) (cancel_same cancel next (field_at fields 2) one.1 two.1)
 one_cancel address cancel other fields same one two = absurd (cc)
 
 one_bring : (address : List ℕ) (place : ℕ) → SaysOne (line.B address place)
-one_bring address place (line.B other next) fields same one two = (address_same fields address other one.0 two.0, number_same 1 MAX_PLACE place next (field_at fields 2) one.1 two.1)
+one_bring address place (line.B other next) fields same one two =
+    ap₂ (λ (a : List ℕ) (n : ℕ). line.B a n) (address_same fields address other one.0 two.0) (number_same 1 MAX_PLACE place next (field_at fields 2) one.1 two.1)
 one_bring address place other fields same one two = absurd (cc)
 
 one_receive : (address : List ℕ) (place : ℕ) → SaysOne (line.R address place)
-one_receive address place (line.R other next) fields same one two = (address_same fields address other one.0 two.0, number_same 1 MAX_PLACE place next (field_at fields 2) one.1 two.1)
+one_receive address place (line.R other next) fields same one two =
+    ap₂ (λ (a : List ℕ) (n : ℕ). line.R a n) (address_same fields address other one.0 two.0) (number_same 1 MAX_PLACE place next (field_at fields 2) one.1 two.1)
 one_receive address place other fields same one two = absurd (cc)
 
 says_one : (value : ScriptLine) → SaysOne value
 says_one (line.A who) other fields same one two = one_aircraft who other fields same one two
-says_one (line.G addresses) (line.G other) fields same one two = sym one.written ∙ two.written
+says_one (line.G addresses) (line.G other) fields same one two = ap (λ (l : AddressList). line.G l) (same_list addresses other (sym one.written ∙ two.written))
 says_one (line.G addresses) other fields same one two = absurd (cc)
 says_one (line.S sample) other fields same one two = one_sample sample other fields same one two
 says_one (line.T time) other fields same one two = one_time time other fields same one two
@@ -151,6 +179,6 @@ says_one (line.B address place) other fields same one two = one_bring address pl
 says_one (line.R address place) other fields same one two = one_receive address place other fields same one two
 
 -- a line says one thing
-pub one_value : (bytes : List ℕ) (a b : ScriptLine) → IsScriptLine a bytes → IsScriptLine b bytes → IsSameValue a b
+pub one_value : (bytes : List ℕ) (a b : ScriptLine) → IsScriptLine a bytes → IsScriptLine b bytes → a ≡ b
 one_value bytes a b one other =
     says_one a b (fields_of bytes) (letter_same bytes (letter_of b) (letter_of a) other.letter one.letter) one.says other.says

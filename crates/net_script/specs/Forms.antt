@@ -1,8 +1,8 @@
 -- The forms of the fields of a line. The script language is this project's profile; the names follow ARINC 622.
-use Rattle.std.specs.Prelude.{◌≡◌, ◌⊎◌, ◌^◌, ◌<◌, ◌≤◌, ℕ, ℤ, List, [], ◌∷◌, codes, drop, length}
-use Rattle.std.specs.Int.{to_be_bytes, w32}
+use Rattle.std.specs.Prelude.{◌≡◌, ◌⊎◌, ◌^◌, ◌<◌, ◌≤◌, ℕ, ℤ, List, [], ◌∷◌, codes, length}
 use Rattle.hex.specs.Hex.{IsBytes, encode_upper}
 use Rattle.acars_envelope.specs.Names.{IsAddress, IsFlight, IsMark}
+use Rattle.acars_envelope.specs.Texts.{six_digits}
 use Rattle.adsc_requests.specs.Grammar.{EncodesUplink}
 use Rattle.adsc_requests.specs.declared.kind.Kind.TheVariants.{Demand, Periodic, Event, Emergency}
 use Rattle.adsc_requests.specs.declared.message.Message.{Message}
@@ -16,10 +16,6 @@ use Rattle.net_script.specs.declared.line.Cancel.{Cancel}
 use Rattle.net_script.specs.declared.line.Cancel.TheVariants.{Of, EmergencyMode, All}
 
 -- ---- the text of one value
-
--- an address of 24 bits as six hexadecimal digits, capital letters
-abbrev pub six_digits : ℕ → List ℕ
-six_digits airframe = encode_upper (drop 1 (to_be_bytes w32 airframe))
 
 -- a natural number of the range as a decimal text
 pub record IsNumberOf (low high n : ℕ) (text : List ℕ) : Type 0 where

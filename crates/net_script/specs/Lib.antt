@@ -3,6 +3,7 @@ pub mod Letters
 pub mod Bytes
 pub mod Counts
 pub mod Forms
+pub mod Listing
 pub mod Lines
 pub mod Faults
 pub mod Repeats

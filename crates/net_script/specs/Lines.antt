@@ -1,11 +1,12 @@
 -- The lines of a script by their fields. This project's profile.
 use Rattle.std.specs.Prelude.{◌≡◌, ◌==◌, ◌-◌, ◌^◌, ◌<◌, ◌≤◌, ℕ, List, ◌++◌, codes, drop, length, if◌then◌else◌}
 use Rattle.acars_envelope.specs.Names.{IsAddress, IsFlight, IsMark, with_dots}
+use Rattle.acars_envelope.specs.Texts.{six_digits}
 use Rattle.flight_samples.specs.SampleText.{AreSampleValues}
 use Rattle.flight_samples.specs.Samples.{values_of}
 use Rattle.net_script.specs.Counts.{HasCount}
 use Rattle.net_script.specs.Fields.{field_at, fields_of}
-use Rattle.net_script.specs.Forms.{Form, a_mark, a_flight, an_airframe, an_address, a_column, a_time, a_switch, a_request, a_cancel, a_place, any_text, IsCancelText, IsNumberOf, IsRequestText, six_digits}
+use Rattle.net_script.specs.Forms.{Form, a_mark, a_flight, an_airframe, an_address, a_column, a_time, a_switch, a_request, a_cancel, a_place, any_text, IsCancelText, IsNumberOf, IsRequestText}
 use Rattle.net_script.specs.Letters.{letter_text}
 use Rattle.net_script.specs.declared.letter.Letter.{Letter}
 use Rattle.net_script.specs.declared.letter.Letter.TheVariants.{Aircraft, Ground, Sample, Time, Emergency, Logon, Uplink, Request, Cancel, Bring, Receive}
@@ -101,18 +102,3 @@ pub record IsScriptLine (value : ScriptLine) (bytes : List ℕ) : Type 0 where
 abbrev pub TextBegins : ScriptLine → List ℕ → Type 0
 TextBegins (line.U from) bytes = bytes ≡ codes "U," ++ drop from bytes
 TextBegins _ bytes = Unit {0}
-
--- the two values are equal, seen by what they hold
-abbrev pub IsSameValue : ScriptLine → ScriptLine → Type 0
-IsSameValue (line.A a) (line.A b) = (a.registration ≡ b.registration) × (a.flight ≡ b.flight) × (a.airframe ≡ b.airframe)
-IsSameValue (line.G a) (line.G b) = a.items ≡ b.items
-IsSameValue (line.S a) (line.S b) = values_of a ≡ values_of b
-IsSameValue (line.T a) (line.T b) = a ≡ b
-IsSameValue (line.E a) (line.E b) = a ≡ b
-IsSameValue (line.L a) (line.L b) = a ≡ b
-IsSameValue (line.U a) (line.U b) = a ≡ b
-IsSameValue (line.C a x) (line.C b y) = (a ≡ b) × (x ≡ y)
-IsSameValue (line.K a x) (line.K b y) = (a ≡ b) × (x ≡ y)
-IsSameValue (line.B a x) (line.B b y) = (a ≡ b) × (x ≡ y)
-IsSameValue (line.R a x) (line.R b y) = (a ≡ b) × (x ≡ y)
-IsSameValue _ _ = ⊥

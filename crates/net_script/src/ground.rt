@@ -10,6 +10,7 @@ ghost use Rattle.net_script.specs.Repeats.{IsFirstRepeat, IsRepeat};
 
 use crate::fields::field_at;
 use crate::letter::Letter;
+use crate::listing::Addresses;
 use crate::names::address_of;
 use crate::refusal::{Code, LineRefusal, bad, wrong_field};
 use acars_envelope::Address;
@@ -20,7 +21,7 @@ pub(crate) fn read_ground(
     alloc: Global,
     line: &[u8],
     commas: usize,
-) -> Result<Vec<Address>, LineRefusal>
+) -> Result<Addresses, LineRefusal>
     requires count { length (fields_of line.now) ≡ commas + 1 }
     requires few { commas ≤ MAX_ADDRESSES }
     ensures ok { IfOk result (λ addresses. SaysAddresses (fields_of line.now) addresses.items) }
@@ -30,7 +31,7 @@ pub(crate) fn read_ground(
     if let Some(place) = first_repeat(addresses.as_slice()) {
         return Err(bad(Code::Twice, place as u32 + 1));
     }
-    Ok(addresses)
+    Ok(Addresses::new(addresses))
 }
 
 /// The addresses that the fields behind the letter are, or the first field that is none.

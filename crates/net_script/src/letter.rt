@@ -1,8 +1,8 @@
 //! The kinds of lines.
 
-/// What a line is about, as its first field, a letter, says.
-#[derive(Clone, Copy, PartialEq, Eq)]
-pub(crate) enum Letter {
+/// What a line is about, as its first field, a letter, says. The letters are this project's profile.
+#[derive(Clone, Copy, Debug, PartialEq, Eq)]
+pub enum Letter {
     /// `A`: who the aircraft is.
     Aircraft,
     /// `G`: the ground addresses of its links.

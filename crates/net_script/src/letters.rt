@@ -1,12 +1,24 @@
 //! The letter that begins a line.
 
-ghost use Rattle.std.specs.Prelude.{◌≡◌, ◌≢◌, ◌<◌, IfSome, IfNone};
+ghost use Rattle.std.specs.Prelude.{◌≡◌, ◌≢◌, ◌<◌, IsTrue, ◌↔◌, IfSome, IfNone};
+ghost use Rattle.net_script.specs.Faults.{HasLetter};
 ghost use Rattle.net_script.specs.Fields.{field_at, fields_of};
 ghost use Rattle.net_script.specs.Letters.{letter_code, letter_text};
 ghost use Rattle.net_script.specs.declared.letter.Letter.{Letter as LetterValue};
 
 use crate::fields::field_at;
 use crate::letter::Letter;
+
+/// Whether the line has this letter: whether its field 0, which is what stands before the first comma or else all of the line, is
+/// the letter alone. What else stands in the line isn't judged. This project's profile.
+pub fn has_letter(line: &[u8], letter: Letter) -> bool
+    ensures { IsTrue result ↔ HasLetter line.now letter }
+{
+    match letter_of(line) {
+        Some(found) => found == letter,
+        None => false,
+    }
+}
 
 /// The letter that is the line's field 0, or None where that field is none.
 pub(crate) fn letter_of(line: &[u8]) -> Option<Letter>

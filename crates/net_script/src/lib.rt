@@ -7,8 +7,9 @@
 //! in it follow ARINC 622 and RTCA DO-258A / EUROCAE ED-100A.
 //!
 //! Below stand the crates whose forms the fields have: names and hexadecimal in `acars_envelope`, samples and decimal numbers in
-//! `flight_samples`, requests in `adsc_requests`, what a line is in `adsc_io`, and who an aircraft is in `aircraft_core`. Above stands whoever runs a script; the faults
-//! that need what stands before a line, as an address that isn't listed, are judged there.
+//! `flight_samples`, requests in `adsc_requests`, what a line is in `adsc_io`, and who an aircraft is in `aircraft_core`. Above
+//! stands whoever runs a script; the faults that need what stands before a line, as an address that isn't listed, are judged there,
+//! and so is where a line of which letter may stand, for which [`has_letter`] tells whether a line has a [`Letter`].
 //!
 //! Begin with `specs/Lines.antt` (what a line says), `specs/Forms.antt` (the form of each field) and `specs/Faults.antt` (the first
 //! fault), then read `src/read.rt` from its end. The limits stand in [`limits`].
@@ -22,6 +23,7 @@ mod letter;
 mod letters;
 pub mod limits;
 mod line;
+mod listing;
 mod names;
 mod read;
 mod readers;
@@ -32,6 +34,9 @@ mod sample;
 mod tests;
 mod values;
 
+pub use letter::Letter;
+pub use letters::has_letter;
 pub use line::{Cancel, ScriptLine};
+pub use listing::Addresses;
 pub use read::read_script_line;
 pub use refusal::{BadLine, Code, LineRefusal};

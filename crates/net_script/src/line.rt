@@ -1,5 +1,6 @@
 //! What a line of a script says.
 
+use crate::listing::Addresses;
 use acars_envelope::Address;
 use adsc_requests::{Kind, Message};
 use aircraft_core::Who;
@@ -22,7 +23,7 @@ pub enum ScriptLine {
     /// Who the aircraft is.
     A(Who),
     /// The ground addresses of its links, 1 to 16, all different.
-    G(Vec<Address>),
+    G(Addresses),
     /// A flight sample.
     S(Sample),
     /// The time, from 0 to 999999999.

@@ -3,7 +3,8 @@
 ghost use Rattle.std.specs.Prelude.{◌≡◌, ◌<◌, ◌^◌, drop, length, IfSome, IfNone};
 ghost use Rattle.std.specs.Int.{to_be_bytes, w32};
 ghost use Rattle.acars_envelope.specs.Names.{IsAddress, IsFlight, IsMark, with_dots};
-ghost use Rattle.net_script.specs.Forms.{HasForm, a_flight, a_mark, an_address, an_airframe, six_digits};
+ghost use Rattle.acars_envelope.specs.Texts.{six_digits};
+ghost use Rattle.net_script.specs.Forms.{HasForm, a_flight, a_mark, an_address, an_airframe};
 
 use acars_envelope::{Address, Flight, Registration, octets_of_digits};
 

@@ -1,12 +1,12 @@
 //! A line of a script, read.
 
-ghost use Rattle.std.specs.Prelude.{◌≡◌, ◌≢◌, ℕ, ◌+◌, ◌≤◌, ◌⊎◌, length, Err, IfOk, IfErr, MatchResult};
+ghost use Rattle.std.specs.Prelude.{◌≡◌, ◌≢◌, ℕ, ◌+◌, ◌≤◌, ◌⊎◌, length, Ok, Err, IfOk, IfErr};
 ghost use Rattle.adsc_io.specs.Limits.{max_line_bytes};
 ghost use Rattle.adsc_io.specs.Lines.{IsUnbroken};
 ghost use Rattle.net_script.specs.Counts.{HasCount};
 ghost use Rattle.net_script.specs.Faults.{HasLetter, IsFieldsRefusal, IsFirstLineFault, IsLineRefusal, MayHold};
 ghost use Rattle.net_script.specs.Fields.{fields_of};
-ghost use Rattle.net_script.specs.Lines.{IsSameValue, IsScriptLine, Says, TextBegins, letter_of};
+ghost use Rattle.net_script.specs.Lines.{IsScriptLine, Says, TextBegins, letter_of};
 ghost use Rattle.net_script.specs.declared.line.ScriptLine.{ScriptLine as ScriptLineValue};
 ghost use Rattle.net_script.specs.declared.refusal.Code.{Code as CodeValue};
 
@@ -140,7 +140,7 @@ pub fn read_script_line(alloc: Global, line: &[u8]) -> Result<ScriptLine, LineRe
     // What is read the line says, and what a line says is read.
     ensures ok { IfOk result (λ value. IsScriptLine value line.now) }
     ensures read { (value : ScriptLineValue) → IsScriptLine value line.now
-        → MatchResult result (λ found. IsSameValue found value) (λ e. e ≡ LineRefusal.NoMemory) }
+        → (result ≡ Ok value) ⊎ (result ≡ Err LineRefusal.NoMemory) }
 
     // The text of a `U` line stands behind the letter and its comma.
     ensures text { IfOk result (λ value. TextBegins value line.now) }

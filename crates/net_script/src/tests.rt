@@ -87,7 +87,10 @@ fn lines_of_addresses(rt: HostRuntime) -> Result<(), Fail> {
     let one = address(&rt, b"GRND001");
     let two = address(&rt, b"0000000");
     let both = [one, two].to_vec(rt.alloc())?;
-    assert_eq!(rt; read(&rt, b"G,GRND001,0000000"), Ok(ScriptLine::G(both)));
+    assert_eq!(rt;
+        read(&rt, b"G,GRND001,0000000"),
+        Ok(ScriptLine::G(Addresses::new(both)))
+    );
     let limits = Limits {
         lateral: Some(0x10),
         vrate: None,
@@ -283,4 +286,22 @@ fn addresses_that_stand_twice(rt: HostRuntime) {
             (b"G,GRND001,GRND002,GRND003,GRND001", 4),
         ],
     );
+}
+
+#[test]
+fn letters_that_lines_have(rt: HostRuntime) {
+    let cases: [(&[u8], Letter, bool); 9] = [
+        (b"A", Letter::Aircraft, true),
+        (b"A,\"", Letter::Aircraft, true),
+        (b"A", Letter::Ground, false),
+        (b"A\r", Letter::Aircraft, false),
+        (b"AB", Letter::Aircraft, false),
+        (b",A", Letter::Aircraft, false),
+        (b"a,", Letter::Aircraft, false),
+        (b"", Letter::Sample, false),
+        (b"U,,", Letter::Uplink, true),
+    ];
+    for (line, letter, wanted) in cases {
+        assert_eq!(rt; has_letter(line, letter), wanted);
+    }
 }

@@ -1,5 +1,5 @@
 pub mod CountLaws
-pub mod InputLaws
 pub mod LineLaws
 pub mod OneText
 pub mod ShownLaws
+pub mod UplinkLaws

@@ -1,5 +1,6 @@
-pub mod Inputs
+pub mod Fields
 pub mod LineView
 pub mod Meanings
 pub mod Shown
 pub mod Texts
+pub mod UplinkTexts

@@ -1,4 +1,4 @@
--- What a line of texts means: a downlink of ADS items, or what is wrong with it first (this project's profile).
+-- What a line of texts means: an uplink of ADS messages, a downlink of ADS items, or what is wrong with it first (this project's profile).
 use Rattle.std.specs.Prelude.{◌≡◌, ℕ, ◌<◌, ◌≤◌, ◌⊎◌, Bool, true, false, List, [], ◌∷◌, ◌++◌, length, codes}
 use Rattle.bit_terms.specs.Octets.{octets_bits}
 use Rattle.adsc_io.specs.Limits.{max_line_bytes}
@@ -12,14 +12,59 @@ use Rattle.adsc_downlink.specs.Items.{ItemData}
 use Rattle.adsc_downlink.specs.Encodings.{EncodesDownlink}
 use Rattle.adsc_downlink.specs.Faults.{IsFirstDownlinkFault}
 use Rattle.adsc_downlink.specs.declared.refusal.DownRefusal.{DownRefusal}
+use Rattle.adsc_requests.specs.Grammar.{EncodesUplink}
+use Rattle.adsc_requests.specs.Refusals.{IsFirstUplinkFault}
+use Rattle.adsc_requests.specs.declared.message.Uplink.{Uplink}
+use Rattle.adsc_requests.specs.declared.refusal.Refusal.{Refusal}
+use Rattle.shown_lines.specs.declared.direction.Direction.{Direction}
+use Rattle.shown_lines.specs.declared.direction.Direction.TheVariants.{Up, Down}
 use Rattle.shown_lines.specs.declared.refusal.TextRefusal.{TextRefusal}
 use Rattle.shown_lines.specs.declared.refusal.TextRefusal.TheVariants as refusal
 
--- A meaning as plain data. Lines of forms that are not built yet have no other meaning than that.
+-- A meaning: what a downlink says is plain data, and what an uplink asks is a value of its type. Lines of forms that are not built yet have no other
+-- meaning than that.
 pub data Meaning : Type 0 where
+  uplink : (address registration : List ℕ) (asked : Uplink) → Meaning
   downlink : (address registration : List ℕ) (items : List ItemData) → Meaning
   refused : TextRefusal → Meaning
   not_built : Meaning
+
+-- ---- what a text means
+
+-- What the payload of an uplink means: the uplink that it encodes, or its first fault.
+abbrev pub UplinkPayloadMeans : List ℕ → List ℕ → List ℕ → Meaning → Type 0
+UplinkPayloadMeans address registration payload meaning =
+    ((asked : Uplink) × EncodesUplink asked payload × (meaning ≡ uplink address registration asked))
+    ⊎ ((fault : Refusal) × IsFirstUplinkFault fault payload × (meaning ≡ refused (refusal.Request fault)))
+
+-- What the payload of a downlink means: the items that it encodes, or its first fault.
+abbrev pub DownlinkPayloadMeans : List ℕ → List ℕ → List ℕ → Meaning → Type 0
+DownlinkPayloadMeans address registration payload meaning =
+    ((items : List ItemData) × EncodesDownlink items (octets_bits payload) × (meaning ≡ downlink address registration items))
+    ⊎ ((fault : DownRefusal) × IsFirstDownlinkFault (octets_bits payload) fault.bit fault.why × (meaning ≡ refused (refusal.Payload fault)))
+
+-- What a payload means that goes this way.
+abbrev pub PayloadMeans : Direction → List ℕ → List ℕ → List ℕ → Meaning → Type 0
+PayloadMeans Up address registration payload meaning = UplinkPayloadMeans address registration payload meaning
+PayloadMeans Down address registration payload meaning = DownlinkPayloadMeans address registration payload meaning
+
+-- What the body of an envelope from or to this address means. Texts of the application AFN are not built yet.
+abbrev pub BodyMeans : Direction → List ℕ → Body → Meaning → Type 0
+BodyMeans direction address (Ads registration payload) meaning = PayloadMeans direction address registration payload.items meaning
+BodyMeans direction address (Afn text) meaning = meaning ≡ not_built
+
+-- What a text means that goes this way: its first bad place, or what its envelope carries.
+abbrev pub TextMeans : Direction → List ℕ → Meaning → Type 0
+TextMeans direction text meaning =
+    ((fault : EnvelopeRefusal) × IsFirstEnvelopeFault text fault × (meaning ≡ refused (refusal.Envelope fault)))
+    ⊎ ((envelope : Envelope) × IsEnvelopeText envelope text × BodyMeans direction envelope.address envelope.body meaning)
+
+-- ---- what a line means
+
+-- the letter that says which way a text goes
+abbrev pub letter_of : Direction → List ℕ
+letter_of Up = codes "U"
+letter_of Down = codes "D"
 
 -- The line begins with this letter and a comma, and this text stands behind.
 abbrev pub IsLineOf : List ℕ → List ℕ → List ℕ → Type 0
@@ -29,34 +74,16 @@ IsLineOf letter line text = line ≡ letter ++ codes "," ++ text
 abbrev pub BeginsWith : List ℕ → List ℕ → Type 0
 BeginsWith letter line = (text : List ℕ) × IsLineOf letter line text
 
--- What the payload of a downlink means: the items that it encodes, or its first fault.
-abbrev pub PayloadMeans : List ℕ → List ℕ → List ℕ → Meaning → Type 0
-PayloadMeans address registration payload meaning =
-    ((items : List ItemData) × EncodesDownlink items (octets_bits payload) × (meaning ≡ downlink address registration items))
-    ⊎ ((fault : DownRefusal) × IsFirstDownlinkFault (octets_bits payload) fault.bit fault.why × (meaning ≡ refused (refusal.Payload fault)))
+-- A text stands in the line behind the letter of this direction, and means this.
+abbrev pub CarriesText : Direction → List ℕ → Meaning → Type 0
+CarriesText direction line meaning = (text : List ℕ) × IsLineOf (letter_of direction) line text × TextMeans direction text meaning
 
--- What the body of an envelope to or from this address means. Texts of the application AFN are not built yet.
-abbrev pub BodyMeans : List ℕ → Body → Meaning → Type 0
-BodyMeans address (Ads registration payload) meaning = PayloadMeans address registration payload.items meaning
-BodyMeans address (Afn text) meaning = meaning ≡ not_built
-
--- What the text of a downlink line means: its first bad place, or what its envelope carries.
-abbrev pub TextMeans : List ℕ → Meaning → Type 0
-TextMeans text meaning =
-    ((fault : EnvelopeRefusal) × IsFirstEnvelopeFault text fault × (meaning ≡ refused (refusal.Envelope fault)))
-    ⊎ ((envelope : Envelope) × IsEnvelopeText envelope text × BodyMeans envelope.address envelope.body meaning)
-
--- What a line means that doesn't begin with `U,`: too long, of no known form, or what its text means.
-abbrev pub DownlinkLineMeans : List ℕ → Meaning → Type 0
-DownlinkLineMeans line meaning =
-    ((max_line_bytes < length line) × (meaning ≡ refused refusal.Long))
-    ⊎ ((length line ≤ max_line_bytes) × (BeginsWith (codes "D") line → ⊥) × (meaning ≡ refused refusal.Form))
-    ⊎ ((length line ≤ max_line_bytes) × ((text : List ℕ) × IsLineOf (codes "D") line text × TextMeans text meaning))
-
--- What a line means. Lines that begin with `U,`, the uplinks, are not built yet.
+-- What a line means: too long, of no known form, or what its text means.
 abbrev pub Means : List ℕ → Meaning → Type 0
 Means line meaning =
-    (BeginsWith (codes "U") line × (meaning ≡ not_built)) ⊎ ((BeginsWith (codes "U") line → ⊥) × DownlinkLineMeans line meaning)
+    ((max_line_bytes < length line) × (meaning ≡ refused refusal.Long))
+    ⊎ ((length line ≤ max_line_bytes) × ((direction : Direction) → BeginsWith (letter_of direction) line → ⊥) × (meaning ≡ refused refusal.Form))
+    ⊎ ((length line ≤ max_line_bytes) × ((direction : Direction) × CarriesText direction line meaning))
 
 -- The line means this, and nothing else.
 pub record IsMeaning (line : List ℕ) (meaning : Meaning) : Type 0 where
@@ -65,6 +92,7 @@ pub record IsMeaning (line : List ℕ) (meaning : Meaning) : Type 0 where
 
 -- the meaning is a refusal
 abbrev pub is_refusal : Meaning → Bool
+is_refusal (uplink address registration asked) = false
 is_refusal (downlink address registration items) = false
 is_refusal (refused fault) = true
 is_refusal not_built = false
@@ -89,6 +117,6 @@ pub record HasMeaning (Passes : Meaning → Type 0) (lines : List (List ℕ)) : 
 abbrev pub HasRefused : List (List ℕ) → Type 0
 HasRefused lines = HasMeaning (λ meaning. is_refusal meaning ≡ true) lines
 
--- some line is of a form that is not built yet
+-- some line is of a form that is not built yet: its text is of the application AFN
 abbrev pub HasUnbuilt : List (List ℕ) → Type 0
 HasUnbuilt lines = HasMeaning (λ meaning. meaning ≡ not_built) lines

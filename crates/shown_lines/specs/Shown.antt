@@ -2,7 +2,7 @@
 use Rattle.std.specs.Prelude.{◌≡◌, ◌≢◌, ℕ, ◌+◌, List, [], ◌∷◌, ◌++◌, length, if◌then◌else◌}
 use Rattle.std.specs.List.{All}
 use Rattle.adsc_io.specs.Lines.{script_lines}
-use Rattle.shown_lines.specs.Inputs.{IsOverLimit, lines_before_limit}
+use Rattle.adsc_io.specs.Inputs.{IsOverLimit, lines_before_limit}
 use Rattle.shown_lines.specs.Meanings.{Meaning, IsMeaning, AreMeanings, is_refusal}
 use Rattle.shown_lines.specs.Meanings.Meaning.{not_built}
 use Rattle.shown_lines.specs.Texts.{line_text, lines_text, end_text}

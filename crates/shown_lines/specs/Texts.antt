@@ -1,11 +1,9 @@
 -- How the meaning of a line is shown: the lines of text that spell its values. Their forms are this project's profile; numbers are decimal,
 -- hexadecimal digits have capital letters, and each line ends with a newline.
-use Rattle.std.specs.Prelude.{ℕ, ◌+◌, nat_le, ◌==◌, ◌&&◌, ◌||◌, if◌then◌else◌, ℤ, pos, unsigned_abs, List, [], ◌∷◌, ◌++◌, codes, decimal, flat_map, map, drop, slice_index_or}
-use Rattle.std.specs.Fmt.{signed_decimal}
-use Rattle.std.specs.Int.{to_be_bytes, w32}
-use Rattle.hex.specs.Hex.{encode_upper}
-use Rattle.adsc_io.specs.Lines.{newline}
-use Rattle.acars_envelope.specs.Texts.{four_digits}
+use Rattle.std.specs.Prelude.{ℕ, ◌+◌, nat_le, ◌==◌, ◌&&◌, ◌||◌, if◌then◌else◌, pos, unsigned_abs, List, [], ◌∷◌, ◌++◌, codes, decimal, flat_map, map, slice_index_or}
+use Rattle.adsc_io.specs.Lines.{ended}
+use Rattle.acars_envelope.specs.Texts.{four_digits, six_digits}
+use Rattle.acars_envelope.specs.declared.refusal.EnvelopeRefusal.{EnvelopeRefusal}
 use Rattle.acars_envelope.specs.declared.refusal.EnvelopeWhy.{EnvelopeWhy}
 use Rattle.acars_envelope.specs.declared.refusal.EnvelopeWhy.TheVariants as envelope
 use Rattle.adsc_groups.specs.Basic.{basic_values}
@@ -15,30 +13,15 @@ use Rattle.adsc_downlink.specs.Items.{ReportData, ItemData}
 use Rattle.adsc_downlink.specs.Items.ItemData.{ack, nack, noncompliance, emergency_off, report}
 use Rattle.adsc_downlink.specs.declared.refusal.DownWhy.{DownWhy}
 use Rattle.adsc_downlink.specs.declared.refusal.DownWhy.TheVariants as payload
+use Rattle.adsc_requests.specs.declared.refusal.Refusal.{Refusal}
+use Rattle.shown_lines.specs.declared.direction.Direction.{Direction}
+use Rattle.shown_lines.specs.declared.direction.Direction.TheVariants.{Up, Down}
 use Rattle.shown_lines.specs.declared.refusal.TextRefusal.{TextRefusal}
 use Rattle.shown_lines.specs.declared.refusal.TextRefusal.TheVariants as refusal
-use Rattle.shown_lines.specs.Meanings.{Meaning}
-use Rattle.shown_lines.specs.Meanings.Meaning.{downlink, refused, not_built}
-
--- the byte between two fields
-abbrev pub comma : ℕ
-comma = 44
-
--- a text and the newline that ends it
-abbrev pub ended : List ℕ → List ℕ
-ended text = text ++ newline ∷ []
-
--- a comma and a number
-abbrev pub number_field : ℕ → List ℕ
-number_field n = comma ∷ decimal n
-
--- a comma and a signed number
-abbrev pub signed_field : ℤ → List ℕ
-signed_field z = comma ∷ signed_decimal z
-
--- a comma and a number, for each of these
-abbrev pub value_fields : List ℤ → List ℕ
-value_fields values = flat_map signed_field values
+use Rattle.shown_lines.specs.Fields.{comma, number_field, value_fields}
+use Rattle.shown_lines.specs.UplinkTexts.{message_text}
+use Rattle.shown_lines.specs.Meanings.{Meaning, letter_of}
+use Rattle.shown_lines.specs.Meanings.Meaning.{uplink, downlink, refused, not_built}
 
 -- ---- groups
 
@@ -48,15 +31,11 @@ abbrev pub flight_character : ℕ → ℕ
 flight_character code =
     if nat_le 1 code && nat_le code 26 then code + 64 else if code == 32 || (nat_le 48 code && nat_le code 57) then code else 63
 
--- the aircraft's address of 24 bits as six hexadecimal digits
-abbrev pub airframe_digits : ℕ → List ℕ
-airframe_digits address = encode_upper (drop 1 (to_be_bytes w32 address))
-
--- the values of a group: eight characters for a flight identification, six digits for an airframe, else its numbers in the order of its fields
+-- the values of a group: eight characters for a flight identification, six digits for an airframe's address, else its numbers in the order of its fields
 abbrev pub group_values : GroupData → List ℕ
 group_values group =
     if group.tag == 12 then comma ∷ map (λ code. flight_character (unsigned_abs code)) group.values
-    else if group.tag == 17 then comma ∷ airframe_digits (unsigned_abs (slice_index_or group.values 0 (pos 0)))
+    else if group.tag == 17 then comma ∷ six_digits (unsigned_abs (slice_index_or group.values 0 (pos 0)))
     else value_fields group.values
 
 -- the line of a group: its tag and its values
@@ -101,7 +80,15 @@ abbrev pub envelope_fields : ℕ → EnvelopeWhy → List ℕ
 envelope_fields place (envelope.Check found due) = comma ∷ four_digits found ++ comma ∷ four_digits due
 envelope_fields place why = number_field place
 
--- the code of a fault of a payload
+-- the code of an envelope's first bad place, and what stands behind it
+abbrev pub envelope_fault_fields : EnvelopeRefusal → List ℕ
+envelope_fault_fields fault = envelope_code fault.why ++ envelope_fields fault.place fault.why
+
+-- the code of the first fault of an uplink's payload, which has the reason that a negative acknowledgement tells the ground, and the fault's first bit
+abbrev pub request_fault_fields : Refusal → List ℕ
+request_fault_fields refusal = codes "REASON-" ++ decimal refusal.reason ++ number_field refusal.bit
+
+-- the code of a fault of a downlink's payload
 abbrev pub payload_code : DownWhy → List ℕ
 payload_code payload.Short = codes "BITS-SHORT"
 payload_code payload.Tag = codes "BITS-TAG"
@@ -112,7 +99,8 @@ payload_code payload.Many = codes "BITS-MANY"
 abbrev pub refusal_fields : TextRefusal → List ℕ
 refusal_fields refusal.Long = codes "LONG,4096"
 refusal_fields refusal.Form = codes "FORM,0"
-refusal_fields (refusal.Envelope fault) = envelope_code fault.why ++ envelope_fields fault.place fault.why
+refusal_fields (refusal.Envelope fault) = envelope_fault_fields fault
+refusal_fields (refusal.Request fault) = request_fault_fields fault
 refusal_fields (refusal.Payload fault) = payload_code fault.why ++ number_field fault.bit
 
 -- ---- lines
@@ -121,13 +109,15 @@ refusal_fields (refusal.Payload fault) = payload_code fault.why ++ number_field 
 unfoldable pub refusal_text : ℕ → TextRefusal → List ℕ
 refusal_text number fault = ended (codes "line" ++ number_field number ++ codes ",refused," ++ refusal_fields fault)
 
--- the line that says from whom and to whom a downlink is
-abbrev pub downlink_head : ℕ → List ℕ → List ℕ → List ℕ
-downlink_head number address registration = ended (codes "line" ++ number_field number ++ codes ",D," ++ address ++ codes ",ADS," ++ registration)
+-- the line that says which way an ADS text goes, the ground facility and the aircraft
+abbrev pub head_text : ℕ → Direction → List ℕ → List ℕ → List ℕ
+head_text number direction address registration =
+    ended (codes "line" ++ number_field number ++ codes "," ++ letter_of direction ++ codes "," ++ address ++ codes ",ADS," ++ registration)
 
 -- what is shown for the line of this number and meaning; a line of a form that is not built is never shown
 unfoldable pub line_text : ℕ → Meaning → List ℕ
-line_text number (downlink address registration items) = downlink_head number address registration ++ flat_map item_text items
+line_text number (uplink address registration asked) = head_text number Up address registration ++ flat_map message_text asked.messages.items
+line_text number (downlink address registration items) = head_text number Down address registration ++ flat_map item_text items
 line_text number (refused fault) = refusal_text number fault
 line_text number not_built = []
 

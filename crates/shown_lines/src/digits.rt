@@ -1,10 +1,10 @@
 // Hexadecimal digits with capital letters.
-ghost use Rattle.std.specs.Prelude.{◌≡◌, ◌*◌, ◌≤◌, ◌<◌, ◌^◌, ◌∷◌, ◌++◌, length, map, drop, OnOk};
-ghost use Rattle.std.specs.Char.{to_ascii_uppercase};
-ghost use Rattle.hex.specs.Hex.{IsBytes, encode_lower, encode_upper};
-ghost use Rattle.acars_envelope.specs.Texts.{four_digits};
-ghost use Rattle.shown_lines.specs.Texts.{comma, airframe_digits};
+ghost use Rattle.std.specs.Prelude.{◌≡◌, ◌≤◌, ◌∷◌, ◌++◌, length, OnOk};
+ghost use Rattle.hex.specs.Hex.{encode_upper};
+ghost use Rattle.acars_envelope.specs.Texts.{four_digits, six_digits};
+ghost use Rattle.shown_lines.specs.Fields.{comma};
 
+use acars_envelope::write_digits;
 use std::alloc::AllocError;
 
 /// Appends the code that was found and the code that is due, a comma before each.
@@ -25,7 +25,7 @@ fn append_check_code(out: &mut Vec<u8>, code: u16) -> Result<(), AllocError>
 
 /// Appends a comma and an aircraft's address of 24 bits.
 pub(crate) fn append_airframe(out: &mut Vec<u8>, address: u32) -> Result<(), AllocError>
-    ensures { OnOk result (out.new.items ≡ out.old.items ++ comma ∷ airframe_digits address) }
+    ensures { OnOk result (out.new.items ≡ out.old.items ++ comma ∷ six_digits address) }
 {
     let octets = address.to_be_bytes();
     out.extend_from_slice(b",")?;
@@ -41,30 +41,4 @@ fn append_octets(out: &mut Vec<u8>, octets: &[u8]) -> Result<(), AllocError>
     let digits = &mut digits[..2 * octets.len()];
     write_digits(octets, digits);
     out.extend_from_slice(digits)
-}
-
-/// Writes octets as digits over a slice of twice their number.
-fn write_digits(octets: &[u8], digits: &mut [u8])
-    requires { length digits.old ≡ 2 * length octets.now }
-    ensures { digits.new ≡ encode_upper octets.now }
-{
-    encode(octets, digits);
-    make_capital(digits);
-}
-
-/// Writes octets as digits with small letters.
-fn encode(octets: &[u8], digits: &mut [u8])
-    requires { length digits.old ≡ 2 * length octets.now }
-    ensures { digits.new ≡ encode_lower octets.now }
-{
-    hex::encode_to_slice(octets, digits).unwrap();
-}
-
-/// Makes the letters of digits capital, in place.
-fn make_capital(digits: &mut [u8])
-    ensures { digits.new ≡ map to_ascii_uppercase digits.old }
-{
-    for digit in digits.iter_mut() {
-        *digit = digit.to_ascii_uppercase();
-    }
 }

@@ -1,7 +1,8 @@
 // The lines of report groups.
 ghost use Rattle.std.specs.Prelude.{◌≡◌, ◌∷◌, ◌++◌, OnOk, map, unsigned_abs};
 ghost use Rattle.adsc_groups.specs.GroupView.{group_data, flight_id_values, route_values, motion_values, weather_values, intermediate_values, fixed_values};
-ghost use Rattle.shown_lines.specs.Texts.{comma, value_fields, flight_character, group_values, group_text};
+ghost use Rattle.shown_lines.specs.Fields.{comma, value_fields};
+ghost use Rattle.shown_lines.specs.Texts.{flight_character, group_values, group_text};
 
 use crate::digits::append_airframe;
 use crate::numbers::{append_number, append_values};

@@ -3,10 +3,12 @@ ghost use Rattle.std.specs.Prelude.{◌≡◌, ◌++◌, OnOk, codes, map, flat_
 ghost use Rattle.adsc_groups.specs.BasicView.{basic_data};
 ghost use Rattle.adsc_groups.specs.Basic.{basic_values};
 ghost use Rattle.adsc_downlink.specs.ItemView.{item_data, report_data, report_group_data};
-ghost use Rattle.shown_lines.specs.Texts.{ended, number_field, value_fields, place_field, group_text, report_text, item_text};
+ghost use Rattle.adsc_io.specs.Lines.{ended};
+ghost use Rattle.shown_lines.specs.Fields.{number_field, value_fields};
+ghost use Rattle.shown_lines.specs.Texts.{place_field, group_text, report_text, item_text};
 
 use crate::groups::append_group;
-use crate::numbers::{append_number, append_values};
+use crate::numbers::{append_number, append_numbered, append_values};
 use adsc_downlink::{Item, Nack, Report, ReportGroup};
 use adsc_groups::Basic;
 use std::alloc::AllocError;
@@ -27,21 +29,12 @@ fn append_item(out: &mut Vec<u8>, item: &Item) -> Result<(), AllocError>
     ensures { OnOk result (out.new.items ≡ out.old.items ++ item_text (item_data item.now)) }
 {
     match item {
-        Item::Ack { n } => append_numbered(out, b"ack", *n),
+        Item::Ack { n } => append_numbered(out, b"ack", *n as u32),
         Item::Nack(nack) => append_nack(out, nack),
-        Item::Noncompliance { n } => append_numbered(out, b"noncompliance", *n),
-        Item::EmergencyOff { n } => append_numbered(out, b"emergency-off", *n),
+        Item::Noncompliance { n } => append_numbered(out, b"noncompliance", *n as u32),
+        Item::EmergencyOff { n } => append_numbered(out, b"emergency-off", *n as u32),
         Item::Report(report) => append_report(out, report),
     }
-}
-
-/// Appends a line that is a word and a contract's number.
-fn append_numbered(out: &mut Vec<u8>, word: &[u8], n: u8) -> Result<(), AllocError>
-    ensures { OnOk result (out.new.items ≡ out.old.items ++ ended (word.now ++ number_field n)) }
-{
-    out.extend_from_slice(word)?;
-    append_number(out, n as u32)?;
-    out.extend_from_slice(b"\n")
 }
 
 /// Appends the line of a negative acknowledgement.

@@ -1,8 +1,8 @@
 //! What is shown for the lines of an input.
 ghost use Rattle.std.specs.Prelude.{◌≡◌, ℕ, ◌+◌, ◌<◌, ◌≤◌, ◌↔◌, [], length, IsTrue, IfOk, IfSome, IfNone, OnOk};
+ghost use Rattle.adsc_io.specs.Inputs.{first_lines};
 ghost use Rattle.adsc_io.specs.Limits.{max_script_lines};
 ghost use Rattle.adsc_io.specs.Lines.{script_lines};
-ghost use Rattle.shown_lines.specs.Inputs.{first_lines};
 ghost use Rattle.shown_lines.specs.LineView.{meaning_of};
 ghost use Rattle.shown_lines.specs.Meanings.{Means, HasUnbuilt, is_refusal};
 ghost use Rattle.shown_lines.specs.Meanings.Meaning.{not_built};

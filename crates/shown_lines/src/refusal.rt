@@ -2,6 +2,7 @@
 
 use acars_envelope::EnvelopeRefusal;
 use adsc_downlink::DownRefusal;
+use adsc_requests::Refusal;
 
 /// What is wrong with a line of texts. This project's profile.
 #[derive(Clone, Copy, Debug, PartialEq, Eq)]
@@ -12,6 +13,8 @@ pub enum TextRefusal {
     Form,
     /// The text is no envelope's: its first bad place.
     Envelope(EnvelopeRefusal),
+    /// The payload of the envelope is no uplink: its first fault.
+    Request(Refusal),
     /// The payload of the envelope is no downlink: its first fault.
     Payload(DownRefusal),
 }

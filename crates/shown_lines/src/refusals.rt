@@ -1,12 +1,13 @@
 // The line of a refusal.
 ghost use Rattle.std.specs.Prelude.{◌≡◌, ◌++◌, OnOk};
-ghost use Rattle.shown_lines.specs.Texts.{envelope_code, envelope_fields, payload_code, refusal_fields, refusal_text};
+ghost use Rattle.shown_lines.specs.Texts.{envelope_code, envelope_fields, envelope_fault_fields, request_fault_fields, payload_code, refusal_fields, refusal_text};
 
 use crate::digits::append_check_codes;
-use crate::numbers::append_number;
+use crate::numbers::{append_decimal, append_number};
 use crate::refusal::TextRefusal;
 use acars_envelope::{EnvelopeRefusal, EnvelopeWhy};
 use adsc_downlink::DownWhy;
+use adsc_requests::Refusal;
 use std::alloc::AllocError;
 
 /// Appends the line of a refusal, with the number of the line that is refused.
@@ -33,6 +34,7 @@ fn append_refusal_fields(out: &mut Vec<u8>, refusal: &TextRefusal) -> Result<(),
         TextRefusal::Long => out.extend_from_slice(b"LONG,4096"),
         TextRefusal::Form => out.extend_from_slice(b"FORM,0"),
         TextRefusal::Envelope(fault) => append_envelope_fault(out, fault),
+        TextRefusal::Request(fault) => append_request_fault(out, fault),
         TextRefusal::Payload(fault) => {
             append_payload_code(out, fault.why)?;
             append_number(out, fault.bit)
@@ -40,12 +42,23 @@ fn append_refusal_fields(out: &mut Vec<u8>, refusal: &TextRefusal) -> Result<(),
     }
 }
 
-/// Appends the code of an envelope's first bad place, and the place.
-fn append_envelope_fault(out: &mut Vec<u8>, fault: &EnvelopeRefusal) -> Result<(), AllocError>
-    ensures { OnOk result (out.new.items ≡ out.old.items ++ (envelope_code fault.now.why ++ envelope_fields fault.now.place fault.now.why)) }
+/// Appends the code of an envelope's first bad place, a comma, and the place in decimal; for a wrong check not the place, but the code that was
+/// found and the code that is due. The form of envelopes follows ARINC 622; the codes are this project's profile.
+pub fn append_envelope_fault(out: &mut Vec<u8>, fault: &EnvelopeRefusal) -> Result<(), AllocError>
+    ensures { OnOk result (out.new.items ≡ out.old.items ++ envelope_fault_fields fault.now) }
 {
     append_envelope_code(out, fault.why)?;
     append_envelope_fields(out, fault.place, fault.why)
+}
+
+/// Appends the first fault of an uplink's payload: `REASON-` and its reason, a comma, and its first bit in decimal. The reasons are those of RTCA
+/// DO-258A / EUROCAE ED-100A; the form of the code is this project's profile.
+pub fn append_request_fault(out: &mut Vec<u8>, refusal: &Refusal) -> Result<(), AllocError>
+    ensures { OnOk result (out.new.items ≡ out.old.items ++ request_fault_fields refusal.now) }
+{
+    out.extend_from_slice(b"REASON-")?;
+    append_decimal(out, refusal.reason as u32)?;
+    append_number(out, refusal.bit)
 }
 
 /// Appends the code of an envelope's fault.

@@ -16,7 +16,7 @@ fn text_of(alloc: Global, bytes: &[u8]) -> Result<Vec<u8>, Fail> {
 #[test]
 fn each_kind_of_line(rt: HostRuntime) -> Result<(), Fail> {
     let alloc = rt.alloc();
-    let table: [(&str, &str); 10] = [
+    let table: [(&str, &str); 14] = [
         (
             // each item
             "D,/AKLCDYA.ADS.N1234503010402060403010505040115400600D6DA\n",
@@ -33,27 +33,49 @@ fn each_kind_of_line(rt: HostRuntime) -> Result<(), Fail> {
             "line,1,D,AKLCDYA,ADS,.N12345\nreport,7,0,0,0,0,0,0,0\ngroup,12,??BBCG??\nend,1,0\n",
         ),
         (
+            // each kind of uplink message, with each group, also in another order
+            "U,/AKLCDYA.ADS.N1234501256D\nU,/AKLCDYA.ADS.N12345020306040705B71D\nU,/AKLCDYA.ADS.N1234507010BA50C010D020E030F041005110615FF784D8A\nU,/AKLCDYA.ADS.N1234509020B000C0011001500017FC0\nU,/AKLCDYA.ADS.N1234508030A011280137FFF80001443D1\nU,/AKLCDYA.ADS.N123450804141300008000127F0AFFE2C6\nU,/AKLCDYA.ADS.N1234507FF1500010EFF0BFF217E\nU,/AKLCDYA.ADS.N1234507010BA50802147C7F\nU,/AKLCDYA.ADS.N1234507000900060002FF9F19\n",
+            "line,1,U,AKLCDYA,ADS,.N12345\ncancel-all\nline,2,U,AKLCDYA,ADS,.N12345\ncancel,3\ncancel-emergency,4\nperiodic,5\nline,3,U,AKLCDYA,ADS,.N12345\nperiodic,1\ninterval,304\ngroup,12,1\ngroup,13,2\ngroup,14,3\ngroup,15,4\ngroup,16,5\ngroup,17,6\nintent,255,120\nline,4,U,AKLCDYA,ADS,.N12345\nemergency,2\ninterval,0\ngroup,12,0\ngroup,17,0\nintent,0,1\nline,5,U,AKLCDYA,ADS,.N12345\nevent,3\nlateral,1\nvrate,-128\nrange,32767,-32768\nwaypoint\nline,6,U,AKLCDYA,ADS,.N12345\nevent,4\nlateral,255\nvrate,127\nrange,0,-32768\nwaypoint\nline,7,U,AKLCDYA,ADS,.N12345\nperiodic,255\ninterval,4096\ngroup,14,255\nintent,0,1\nline,8,U,AKLCDYA,ADS,.N12345\nperiodic,1\ninterval,304\nevent,2\nwaypoint\nline,9,U,AKLCDYA,ADS,.N12345\nperiodic,0\nemergency,0\ncancel-emergency,0\ncancel,255\nend,9,0\n",
+        ),
+        (
+            // each refusal of an uplink's payload
+            "U,/AKLCDYA.ADS.N123450565E9\nU,/AKLCDYA.ADS.N123450745AB\nU,/AKLCDYA.ADS.N1234507010BA50BA5F332\nU,/AKLCDYA.ADS.N1234507010D010D01EA3F\nU,/AKLCDYA.ADS.N1234507010A085D49\nU,/AKLCDYA.ADS.N123450801AD71\nU,/AKLCDYA.ADS.N1234508010A0008AF\nU,/AKLCDYA.ADS.N12345080112008275\nU,/AKLCDYA.ADS.N1234508011327E5C1\nU,/AKLCDYA.ADS.N1234508041327102710D0E5\nU,/AKLCDYA.ADS.N1234508011380008000FD04\nU,/AKLCDYA.ADS.N123450701150100099D\nU,/AKLCDYA.ADS.N1234501010101014B9A\n",
+            "line,1,refused,REASON-7,0\nline,2,refused,REASON-9,8\nline,3,refused,REASON-2,32\nline,4,refused,REASON-1,32\nline,5,refused,REASON-7,16\nline,6,refused,REASON-3,16\nline,7,refused,REASON-13,24\nline,8,refused,REASON-11,24\nline,9,refused,REASON-9,24\nline,10,refused,REASON-10,40\nline,11,refused,REASON-10,40\nline,12,refused,REASON-12,32\nline,13,refused,REASON-8,32\nend,13,13\n",
+        ),
+        (
             // each refusal of an envelope
             "D,/AKLCDYA.ADS.N1234503017E2\nD,AAKLCDYA\nD,/AKLcDYA.ADS\nD,/AKLCDYAXADS\nD,/AKLCDYA.ADX.N12345\nD,/AKLCDYA.ADS..N.345\nD,/AKLCDYA.ADS.......0301718B\nD,/AKLCDYA.ADS.N123450g01718B\nD,/AKLCDYA.ADS.N123450301718\nD,/AKLCDYA.ADS.N12345030171\nD,/AKLCDYA.AFN\x7f0000\nD,/AKLCDYA.AFNabc000g\nD,/AKLCDYA.AFN\nD,/AKLCDYA.ADS.N123450301718A\nD,/AKLCDYA.AFN/F1234\nD,\n",
             "line,1,refused,HEX,26\nline,2,refused,SLASH,0\nline,3,refused,ADDRESS,4\nline,4,refused,DOT,8\nline,5,refused,IMI,9\nline,6,refused,REGISTRATION,15\nline,7,refused,REGISTRATION,18\nline,8,refused,HEX,20\nline,9,refused,HEX,26\nline,10,refused,CHECK,0171,052F\nline,11,refused,CHARACTER,12\nline,12,refused,HEX,18\nline,13,refused,SHORT,12\nline,14,refused,CHECK,718A,718B\nline,15,refused,CHECK,1234,24B9\nline,16,refused,SHORT,0\nend,16,16\n",
         ),
         (
-            // each refusal of a payload
+            // refusals of an uplink's envelope, and a payload that is right only behind the other letter
+            "U,/AKLCDYA.ADS.N123450701BD4E\nU,\nU,AAKLCDYA\nU,/AKLCDYA.ADS.N123450701BD4F\nD,/AKLCDYA.ADS.N123450701BD4F\nU,/AKLCDYA.ADS.N123450301718B\nU,/AKLCDYA.AFN/F1234\n",
+            "line,1,refused,CHECK,BD4E,BD4F\nline,2,refused,SHORT,0\nline,3,refused,SLASH,0\nline,4,U,AKLCDYA,ADS,.N12345\nperiodic,1\nline,5,refused,BITS-SHORT,8\nline,6,refused,REASON-7,0\nline,7,refused,CHECK,1234,24B9\nend,7,6\n",
+        ),
+        (
+            // each refusal of a downlink's payload
             "D,/AKLCDYA.ADS.N123450700000000E48B\nD,/AKLCDYA.ADS.N12345FF2BBC\nD,/AKLCDYA.ADS.N12345030102DBFB\nD,/AKLCDYA.ADS.N123450401007E29\nD,/AKLCDYA.ADS.N1234504010E9FE7\nD,/AKLCDYA.ADS.N12345050101144176DE\nD,/AKLCDYA.ADS.N12345030103010301030103010301030103010301B0E5\nD,/AKLCDYA.ADS.N12345030103010301030103010301030103010C50F4\nD,/AKLCDYA.ADS.N123450700000000000000000000110000001100000011000000110000001100000011000000110000001100000011000000ED53\nD,/AKLCDYA.ADS.N12345070000000000000000000011006101\n",
             "line,1,refused,BITS-SHORT,29\nline,2,refused,BITS-TAG,0\nline,3,refused,BITS-TAG,16\nline,4,refused,BITS-VALUE,16\nline,5,refused,BITS-VALUE,16\nline,6,refused,BITS-VALUE,24\nline,7,refused,BITS-MANY,128\nline,8,refused,BITS-TAG,128\nline,9,refused,BITS-MANY,344\nline,10,refused,BITS-SHORT,96\nend,10,10\n",
         ),
         (
             // lines of no known form
-            "\nhello\nD\nd,\nX,1\nUU,\n",
-            "line,1,refused,FORM,0\nline,2,refused,FORM,0\nline,3,refused,FORM,0\nline,4,refused,FORM,0\nline,5,refused,FORM,0\nline,6,refused,FORM,0\nend,6,6\n",
+            "\nhello\nD\nd,\nX,1\nUU,\nU\nu,\n",
+            "line,1,refused,FORM,0\nline,2,refused,FORM,0\nline,3,refused,FORM,0\nline,4,refused,FORM,0\nline,5,refused,FORM,0\nline,6,refused,FORM,0\nline,7,refused,FORM,0\nline,8,refused,FORM,0\nend,8,8\n",
         ),
         ("", "end,0,0\n"),
         (
             "\n\nD,/AKLCDYA.ADS.N123450301718B",
             "line,1,refused,FORM,0\nline,2,refused,FORM,0\nline,3,D,AKLCDYA,ADS,.N12345\nack,1\nend,3,2\n",
         ),
-        ("hello\nU,\n", ""),
+        (
+            "hello\nU,/AKLCDYA.AFN/FMHANZ1,.N12345/FAK0/FARADS,05087\n",
+            "",
+        ),
         ("D,/GRND001.AFN/FMHANZ1,.N12345/FAK0/FARADS,05087\n", ""),
+        (
+            "D,/GRND001.AFN/FMHANZ1,.N12345,C81234,000000/FPON00000E000000,0/FCOADS,013093\n",
+            "",
+        ),
     ];
     for (lines, shown) in table {
         assert_eq!(rt;
@@ -70,12 +92,17 @@ fn long_lines(rt: HostRuntime) -> Result<(), Fail> {
     let alloc = rt.alloc();
     let ads = "D,/AKLCDYA.ADS.N12345";
     let afn = "D,/AKLCDYA.AFN";
-    let table: [(&str, usize, &str); 5] = [
+    let uplink = "U,/AKLCDYA.ADS.N12345";
+    let table: [(&str, usize, &str); 9] = [
         (ads, 536, "line,1,refused,LONG,533\nend,1,1\n"),
         (ads, 4_096, "line,1,refused,LONG,533\nend,1,1\n"),
         (ads, 4_097, "line,1,refused,LONG,4096\nend,1,1\n"),
         (afn, 274, "line,1,refused,LONG,271\nend,1,1\n"),
         (afn, 4_096, "line,1,refused,LONG,271\nend,1,1\n"),
+        (uplink, 4_096, "line,1,refused,LONG,533\nend,1,1\n"),
+        (uplink, 4_097, "line,1,refused,LONG,4096\nend,1,1\n"),
+        ("hello", 4_096, "line,1,refused,FORM,0\nend,1,1\n"),
+        ("hello", 4_097, "line,1,refused,LONG,4096\nend,1,1\n"),
     ];
     for (front, length, shown) in table {
         let mut line = Vec::from_slice(alloc, front.as_bytes())?;
@@ -89,17 +116,4 @@ fn long_lines(rt: HostRuntime) -> Result<(), Fail> {
         );
     }
     Ok(())
-}
-
-#[test]
-fn whole_lines_end_at_the_last_newline(rt: HostRuntime) {
-    let table: [(&[u8], &[u8]); 4] = [
-        (b"", b""),
-        (b"a", b""),
-        (b"a\nb", b"a\n"),
-        (b"a\n\n", b"a\n\n"),
-    ];
-    for (bytes, whole) in table {
-        assert_eq!(rt; whole_lines(bytes), whole);
-    }
 }

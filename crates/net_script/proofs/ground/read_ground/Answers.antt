@@ -10,5 +10,5 @@ returns-in-Some-clause-refused c =
 
 pub returns-clause-ok : goal.returns-clause-ok
 returns-clause-ok c =
-    says_addresses (fields_of c.args.line.now) c.in_ok-addresses.addresses.items c.in_ok-addresses.ensures.ok c.in_ok-addresses.ensures.each
-    (rw c.as_slice.ensures.value at c.in_default.ensures.none)
+    rw c.new.ensures (says_addresses (fields_of c.args.line.now) c.in_ok-addresses.addresses.items c.in_ok-addresses.ensures.ok c.in_ok-addresses.ensures.each
+    (rw c.as_slice.ensures.value at c.in_default.ensures.none))

@@ -1,23 +1,11 @@
-use Rattle.std.proofs.Common.{inl, inr, refl, sym, ap, ◌∙◌}
-use Rattle.adsc_downlink.specs.ItemView.{items_data}
-use Rattle.shown_lines.specs.Meanings.Meaning.{downlink, refused}
-use Rattle.shown_lines.specs.declared.refusal.TextRefusal.TheVariants as refusal
+use Rattle.std.proofs.Common.{subst}
+use Rattle.shown_lines.specs.Meanings.{PayloadMeans}
 use Rattle.shown_lines.proofs.line.read_payload.Goals as goal
 
-pub returns-in-Ok-clause-means : goal.returns-in-Ok-clause-means
-returns-in-Ok-clause-means c = inl (items_data c.in-Ok.items, c.in-Ok.ensures.found, refl)
+pub returns-in-Up-clause-only : goal.returns-in-Up-clause-only
+returns-in-Up-clause-only c other means =
+    c.read_uplink.ensures.only other (subst (λ way. PayloadMeans way c.args.address c.args.registration c.args.payload.now other) c.in-Up.is means)
 
-pub returns-in-Ok-clause-only : goal.returns-in-Ok-clause-only
-returns-in-Ok-clause-only c other means = elim means [
-  | inl encoded ↦ encoded.2 ∙ ap (downlink c.args.address c.args.registration) (sym (c.in-Ok.ensures.only encoded.0 encoded.1))
-  | inr faulty ↦ absurd ((c.in-Ok.ensures.fault faulty.0.bit faulty.0.why).1 faulty.1)
-]
-
-pub returns-in-Err-clause-means : goal.returns-in-Err-clause-means
-returns-in-Err-clause-means c = inr (c.in-Err.fault, (c.in-Err.ensures.fault c.in-Err.fault.bit c.in-Err.fault.why).0 refl, refl)
-
-pub returns-in-Err-clause-only : goal.returns-in-Err-clause-only
-returns-in-Err-clause-only c other means = elim means [
-  | inl encoded ↦ absurd (c.in-Err.ensures.only encoded.0 encoded.1)
-  | inr faulty ↦ faulty.2 ∙ ap (λ r. refused (refusal.Payload r)) (sym ((c.in-Err.ensures.fault faulty.0.bit faulty.0.why).1 faulty.1))
-]
+pub returns-in-Down-clause-only : goal.returns-in-Down-clause-only
+returns-in-Down-clause-only c other means =
+    c.read_downlink.ensures.only other (subst (λ way. PayloadMeans way c.args.address c.args.registration c.args.payload.now other) c.in-Down.is means)

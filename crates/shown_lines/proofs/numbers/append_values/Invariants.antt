@@ -1,5 +1,5 @@
 use Rattle.std.proofs.Common.{◌≡◌, ◌++◌, take}
-use Rattle.shown_lines.specs.Texts.{value_fields}
+use Rattle.shown_lines.specs.Fields.{value_fields}
 use Rattle.shown_lines.proofs.numbers.append_values.Given as goal
 
 -- what was appended so far are the numbers so far

@@ -1,0 +1,6 @@
+use Rattle.adsc_run.proofs.LimitLaws.{IsPassed}
+use Rattle.adsc_run.proofs.limit.first_lines.Given as goal
+
+-- as many lines as turns were made were passed
+abbrev pub invariant-loop : goal.invariant-loop
+invariant-loop l = IsPassed l.bytes l.rest l.counter

@@ -1,0 +1,9 @@
+pub mod Appending
+pub mod Heads
+pub mod OutcomeView
+pub mod Output
+pub mod Places
+pub mod Readings
+pub mod Runs
+pub mod Steps
+pub mod Taken

@@ -1,0 +1,108 @@
+//! What a line of a script says.
+
+ghost use Rattle.std.specs.Prelude.{◌≡◌, ℕ, ◌≤◌, length, drop, IfOk};
+ghost use Rattle.adsc_io.specs.Limits.{max_line_bytes};
+ghost use Rattle.adsc_io.specs.Lines.{IsUnbroken};
+ghost use Rattle.adsc_run.specs.Places.{IsInPlace};
+ghost use Rattle.adsc_run.specs.Readings.{ReadsLine};
+
+use crate::placed::misplaced;
+use crate::text::read_text;
+use acars_envelope::{Address, EnvelopeRefusal, Registration};
+use adsc_io::{MAX_LINE_BYTES, NoMemory};
+use adsc_requests::{Refusal, Uplink};
+use arrayvec::ArrayVec;
+use net_script::{Code, LineRefusal, ScriptLine, read_script_line};
+use std::alloc::Global;
+
+/// What a line of a script says at its place, or why it is bad. The script language is this project's profile.
+#[derive(Debug, Drop, PartialEq, Eq)]
+pub enum Reading {
+    /// The line is bad.
+    Bad {
+        /// What is wrong with it.
+        code: Code,
+        /// The value that belongs to the code.
+        value: u32,
+    },
+    /// A right line of any letter but `U`.
+    Says(ScriptLine),
+    /// A `U` line, with what its text says.
+    Brings(TextReading),
+}
+
+/// What a text from the ground says (ARINC 622).
+#[derive(Debug, Drop, PartialEq, Eq)]
+pub enum TextReading {
+    /// It is no envelope's text: its first bad place.
+    Refused(EnvelopeRefusal),
+    /// A text of the application AFN.
+    Afn,
+    /// An uplink of the application ADS.
+    Ads(AdsUplink),
+}
+
+/// An uplink of the application ADS (RTCA DO-258A / EUROCAE ED-100A, ARINC 622).
+#[derive(Debug, Drop, PartialEq, Eq)]
+pub struct AdsUplink {
+    /// The ground address that it comes from.
+    pub address: Address,
+    /// The aircraft that it is for.
+    pub registration: Registration,
+    /// Its payload, 1 to 255 octets.
+    pub octets: ArrayVec<u8, 255>,
+    /// What the payload asks, or its first fault.
+    pub asked: Result<Uplink, Refusal>,
+}
+
+/// Reads the line of this number, counted from 1: what it says, or why it is bad.
+///
+/// The line has no newline, as the lines that `adsc_io::next_line` finds, and may have any length. The rules are tried in this
+/// order, and a line is bad by the first that it breaks:
+///
+/// 1. `Long`: the line has at most 4096 bytes. The value is 4096.
+/// 2. `Head`: lines 1, 2 and 3 have the letters `A`, `G` and `S`. The value is 0.
+/// 3. `Kind`: no line behind them has the letter `A` or `G`, whatever else it holds. The value is 0.
+/// 4. The form of the line, by the rules of [`read_script_line`] in their order: `Kind`, `Byte`, `Count`, `Field`, `Twice`.
+///
+/// The text of a right `U` line is then read: the first bad place of its envelope, as [`acars_envelope::unseal`] tells it, or an
+/// AFN text, or an uplink of the application ADS. The payload of an uplink is read as [`adsc_requests::decode_uplink`] does: what
+/// it asks, or its first fault. A text or a payload that is refused leaves its line right. The script language is this project's
+/// profile; texts follow ARINC 622, payloads RTCA DO-258A / EUROCAE ED-100A.
+pub fn read_line(alloc: Global, number: u32, line: &[u8]) -> Result<Reading, NoMemory>
+    requires unbroken { IsUnbroken line.now }
+    ensures { IfOk result (ReadsLine number line.now) }
+{
+    if line.len() > MAX_LINE_BYTES {
+        return Ok(Reading::Bad {
+            code: Code::Long,
+            value: MAX_LINE_BYTES as u32,
+        });
+    }
+    if let Some(code) = misplaced(number, line) {
+        return Ok(Reading::Bad { code, value: 0 });
+    }
+    read_placed(alloc, line)
+}
+
+/// What a line says that isn't too long and stands where it may, or the first fault of its form.
+fn read_placed(alloc: Global, line: &[u8]) -> Result<Reading, NoMemory>
+    requires size { length line.now ≤ max_line_bytes }
+    requires unbroken { IsUnbroken line.now }
+    ensures { (number : ℕ) → IsInPlace number line.now → IfOk result (ReadsLine number line.now) }
+{
+    match read_script_line(alloc, line) {
+        Ok(ScriptLine::U { from }) => Ok(Reading::Brings(read_text(bytes_from(line, from)))),
+        Ok(value) => Ok(Reading::Says(value)),
+        Err(LineRefusal::Bad { code, value }) => Ok(Reading::Bad { code, value }),
+        Err(LineRefusal::NoMemory) => Err(NoMemory),
+    }
+}
+
+/// The bytes of the line from this place on.
+fn bytes_from(line: &[u8], from: usize) -> &[u8]
+    requires { from ≤ length line.now }
+    ensures { result.now ≡ drop from line.now }
+{
+    line.split_at(from).1
+}
