@@ -1,4 +1,4 @@
-// Reading an ADS text from its registration on.
+//! Reading an ADS text from its registration on.
 ghost use Rattle.std.specs.Prelude.{◌≡◌, ◌≢◌, false, ℕ, ◌+◌, ◌-◌, ◌%◌, ◌≤◌, ◌<◌, ◌++◌, length, drop, codes, min, true, IsTrue, IfOk, IfErr, OnOk};
 ghost use Rattle.std.specs.List.{slice_range};
 ghost use Rattle.arrayvec.specs.ArrayVec.{array_vec_len};

@@ -1,4 +1,4 @@
-// Reading an AFN text from its characters on.
+//! Reading an AFN text from its characters on.
 ghost use Rattle.std.specs.Prelude.{◌≡◌, ℕ, ◌+◌, ◌-◌, ◌≤◌, ◌<◌, ◌++◌, length, drop, codes, true, IsTrue, IfOk, IfErr, OnOk, slice_index};
 ghost use Rattle.acars_envelope.specs.declared.refusal.EnvelopeRefusal.{EnvelopeRefusal};
 ghost use Rattle.acars_envelope.specs.Bodies.{HasItsForms, covered_octets, is_text_character, is_well_formed, written_body};

@@ -1,4 +1,4 @@
-// The check code of a text, by long division bit for bit.
+//! The check code of a text, by long division bit for bit.
 ghost use Rattle.std.specs.Prelude.{◌≡◌, ℕ, ◌+◌, ◌^◌, ◌<◌, [], ◌∷◌, List, length, Bool};
 ghost use Rattle.bit_terms.specs.Bits.{unsigned_bits};
 ghost use Rattle.bit_terms.specs.Octets.{octets_bits};

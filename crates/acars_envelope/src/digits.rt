@@ -1,4 +1,4 @@
-// Hexadecimal digits at places of a text, and the check that ends it.
+//! Hexadecimal digits at places of a text, and the check that ends it.
 ghost use Rattle.std.specs.Prelude.{◌≡◌, ◌↔◌, ℕ, ◌+◌, ◌-◌, ◌*◌, ◌%◌, ◌≤◌, ◌<◌, ◌^◌, List, length, drop, true, IfErr, IfSome, IsSome, IsSomeAnd, OnOk};
 ghost use Rattle.std.specs.List.{AllPass};
 ghost use Rattle.arrayvec.specs.ArrayVec.{array_vec_len};

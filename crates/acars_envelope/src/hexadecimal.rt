@@ -1,4 +1,4 @@
-// Hexadecimal digits with capital letters, written and read.
+//! Hexadecimal digits with capital letters, written and read.
 ghost use Rattle.std.specs.Prelude.{◌≡◌, ◌+◌, ◌*◌, ◌≤◌, ◌++◌, length, map};
 ghost use Rattle.std.specs.Char.{to_ascii_uppercase};
 ghost use Rattle.arrayvec.specs.ArrayVec.{array_vec_len};

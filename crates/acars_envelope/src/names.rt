@@ -1,4 +1,4 @@
-// The names in a text: a ground facility's address, an aircraft's registration, a flight identifier.
+//! The names in a text: a ground facility's address, an aircraft's registration, a flight identifier.
 ghost use Rattle.std.specs.Prelude.{◌≡◌, ◌↔◌, ℕ, ◌-◌, ◌≤◌, List, length, IsTrue, IsSome, IfSome, replicate, ◌++◌};
 ghost use Rattle.std.specs.List.{AllPass};
 ghost use Rattle.acars_envelope.specs.Names.{IsAddress, IsMark, IsRegistration, IsFlight, with_dots, is_name_character, is_mark_character};

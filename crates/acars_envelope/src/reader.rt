@@ -1,4 +1,4 @@
-// Reading an envelope's text: the head and the application's letters.
+//! Reading an envelope's text: the head and the application's letters.
 ghost use Rattle.std.specs.Prelude.{◌≡◌, ℕ, ◌+◌, ◌-◌, ◌<◌, ◌≤◌, ◌++◌, length, take, drop, codes, true, IsTrue, IfOk, IfErr, OnErr, OnOk};
 ghost use Rattle.acars_envelope.specs.declared.refusal.EnvelopeRefusal.{EnvelopeRefusal};
 ghost use Rattle.acars_envelope.specs.declared.texts.Envelope.{Envelope};

@@ -1,4 +1,4 @@
-// Why a text is no envelope's.
+//! Why a text is no envelope's.
 ghost use Rattle.std.specs.Prelude.{◌≡◌};
 ghost use Rattle.acars_envelope.specs.Faults.{refused};
 

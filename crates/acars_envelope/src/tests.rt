@@ -1,4 +1,4 @@
-// Checks computed by another program, right texts, one refused text for each cause and for each rule that
+//! Checks computed by another program, right texts, one refused text for each cause and for each rule that
 // decides between two causes, and the lengths at which they change.
 use super::*;
 use std::process::Abort;

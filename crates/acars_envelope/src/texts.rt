@@ -1,4 +1,4 @@
-// An envelope and its text as values.
+//! An envelope and its text as values.
 ghost use Rattle.std.specs.Prelude.{IsTrue};
 ghost use Rattle.acars_envelope.specs.Bodies.{is_well_formed};
 

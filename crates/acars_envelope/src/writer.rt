@@ -1,4 +1,4 @@
-// Writing an envelope's text.
+//! Writing an envelope's text.
 ghost use Rattle.std.specs.Prelude.{◌≡◌, ◌+◌, ◌*◌, ◌≤◌, ◌++◌, length, codes};
 ghost use Rattle.arrayvec.specs.ArrayVec.{array_vec_len};
 ghost use Rattle.acars_envelope.specs.Bodies.{covered_octets, written_body, HasItsForms};

@@ -20,7 +20,7 @@ use Rattle.adsc_bench.specs.Seen.{Seen}
 use Rattle.adsc_bench.specs.Showing.{IsShownText, Promises, IsDueStatus, Shows}
 use Rattle.adsc_bench.specs.declared.status.Status.{Status}
 use Rattle.adsc_bench.specs.declared.status.Status.TheVariants.{Done, Refused, Words, ReadFault, WriteFault, BadLine, NoMemory, Limit, NotBuilt}
-use Rattle.adsc_run.proofs.LimitLaws.{before_more}
+use Rattle.adsc_io.proofs.LimitLaws.{before_more}
 use Rattle.adsc_bench.proofs.BenchLaws.{told-whole}
 
 -- ---- how reading ended

@@ -1,4 +1,4 @@
-// Whole runs and showings over sources and sinks in memory. The texts were made by another program, from the tables of the formats.
+//! Whole runs and showings over sources and sinks in memory. The texts were made by another program, from the tables of the formats.
 use super::*;
 use adsc_io::{MemSink, MemSource};
 use std::alloc::Global;

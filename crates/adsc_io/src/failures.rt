@@ -1,3 +1,4 @@
+//! What can fail.
 use std::alloc::{AllocError, AllocFailed};
 use thiserror::Error;
 

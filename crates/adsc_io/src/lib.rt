@@ -6,7 +6,7 @@
 //! the device. `MemSource`, `SteadySource` and `MemSink` stand in memory, with chosen calls that fail, for tests;
 //! `StdSource` and `StdSink` are thin adapters over the readers and writers of the standard library, for the program.
 //! Above stand the crates that read scripts and write outputs, up to the bench: they call `read_whole`, `next_line`,
-//! `whole_lines` and `write_all`, and cite the definitions in `specs/`.
+//! `before_limit`, `whole_lines` and `write_all`, and cite the definitions in `specs/`.
 //!
 //! Begin with `specs/Causes.antt` (when a fault may be answered), then `traits.rt`, then `specs/Lines.antt` (what a line
 //! is), `specs/Limits.antt` (how large a script may be) and `specs/Inputs.antt` (which lines stand before its limit).
@@ -24,7 +24,7 @@ mod traits;
 mod writing;
 
 pub use failures::{Failed, NoMemory, ReadFault, WriteFault};
-pub use inputs::whole_lines;
+pub use inputs::{before_limit, whole_lines};
 pub use limits::{MAX_LINE_BYTES, MAX_SCRIPT_BYTES, MAX_SCRIPT_LINES};
 pub use lines::next_line;
 pub use memory_input::{MemSource, SteadySource};

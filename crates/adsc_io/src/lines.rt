@@ -1,3 +1,4 @@
+//! The lines of an input.
 ghost use Rattle.std.specs.Prelude.{◌≡◌, ◌≢◌, ℕ, ◌+◌, ◌<◌, ◌≤◌, ◌↔◌, List, [], ◌∷◌, length, drop, slice_index, IsNone, IfNone, IfSome};
 ghost use Rattle.adsc_io.specs.Lines.{newline, script_lines, BeginsWithLine};
 

@@ -1,3 +1,4 @@
+//! Reading a source whole.
 ghost use Rattle.std.specs.Prelude.{◌≡◌, ℕ, ◌+◌, ◌≤◌, List, length, IfOk, OnErr};
 ghost use Rattle.std.specs.Io.KnownBytes.{Consumes};
 ghost use Rattle.adsc_io.specs.Whole.{EndsWhole};

@@ -1,3 +1,4 @@
+//! Sources and sinks over the standard library's readers and writers.
 ghost use Rattle.std.specs.Prelude.{◌≡◌};
 ghost use Rattle.adsc_io.specs.Standard.{source_reader, source_faults, sink_writer, sink_faults};
 

@@ -1,4 +1,4 @@
-// Inputs and outputs from outside the proofs, and each call that takes memory once where memory is ample.
+//! Inputs and outputs from outside the proofs, and each call that takes memory once where memory is ample.
 use super::*;
 use std::test::Fail;
 
@@ -97,5 +97,19 @@ fn standard_readers_and_writers(rt: HostRuntime) -> Result<(), Fail> {
 
     let mut sink = StdSink::new(Vec::new(alloc));
     assert_eq!(rt; write_all(&mut sink, text), Ok(()));
+    Ok(())
+}
+
+#[test]
+fn lines_before_the_limit(rt: HostRuntime) -> Result<(), Fail> {
+    let mut lines = Vec::new(rt.alloc());
+    for _ in 0..200_000 {
+        lines.extend_from_slice(b"x\n")?;
+    }
+    assert_eq!(rt; before_limit(lines.as_slice()), (lines.as_slice(), false));
+    let mut more = lines.clone()?;
+    more.push(b'y')?;
+    assert_eq!(rt; before_limit(more.as_slice()), (lines.as_slice(), true));
+    assert_eq!(rt; before_limit(b"a\nb"), (b"a\nb".as_slice(), false));
     Ok(())
 }

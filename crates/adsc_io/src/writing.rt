@@ -1,3 +1,4 @@
+//! Writing all of some bytes.
 ghost use Rattle.std.specs.Prelude.{◌≡◌, [], OnOk, OnErr};
 ghost use Rattle.std.specs.Io.KnownBytes.{Appends};
 ghost use Rattle.adsc_io.specs.Causes.{HasCause};

@@ -47,14 +47,7 @@ pub stops_here : (over : Bool) (stage : Stage) (number : ℕ) (lines : List (Lis
 stops_here over stage number lines said (Ended end) begins head step = said_ends over stage number lines said end begins head step
 stops_here over stage number lines said NoMemory begins head step = tt
 
--- ---- aircraft with the same names are one
-
-pub make_who : (registration flight : List ℕ) (airframe : ℕ) → airframe < 2 ^ 24 → Who
-make_who registration flight airframe size = record { registration = registration; flight = flight; airframe = airframe; address_size = size }
-
-pub same_flight : (who : Who) (flight : List ℕ) → flight ≡ who.flight → make_who who.registration flight who.airframe who.address_size ≡ who
-unfolding make_who
-same_flight who flight same = ap (λ (f : List ℕ). make_who who.registration f who.airframe who.address_size) same
+-- ---- the three lines together
 
 -- what three lines make is one setting
 pub setting_of_three : (setting : Setting) (who : Who) (addresses : List (List ℕ)) (first : FlightSample) → setting.registration ≡ who.registration
@@ -62,8 +55,6 @@ pub setting_of_three : (setting : Setting) (who : Who) (addresses : List (List �
     → setting_with who addresses first ≡ setting
 setting_of_three setting who addresses first registration flight airframe listed sample i =
     record { registration = sym registration i; flight = sym flight i; airframe = sym airframe i; addresses = sym listed i; first = sym sample i }
-
--- ---- the three lines together
 
 pub two_go_on : (over : Bool) (a b c : Stage) (m n k : ℕ) (one two three : List (List ℕ)) → GoesOn over a m one b n two → GoesOn over b n two c k three → GoesOn over a m one c k three
 two_go_on over a b c m n k one two three first second run rest = first run (second run rest)

@@ -1,5 +1,4 @@
 pub mod HeadLaws
-pub mod LimitLaws
 pub mod OneReading
 pub mod OneRun
 pub mod OutputLaws

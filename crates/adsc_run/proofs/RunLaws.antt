@@ -29,7 +29,7 @@ use Rattle.adsc_run.specs.Readings.{ReadsLine}
 use Rattle.adsc_run.specs.Runs.{Run, IsRun, LinesRun, StepRuns, after, end_behind, ended_run}
 use Rattle.adsc_run.specs.Steps.{Stage, begun, named, linked, flying, Step, goes, ends, enters, refuses, link_from, same_text, registration_place, payload_step, uplink_step, text_step, line_step, step_of}
 use Rattle.adsc_run.specs.Taken.{Did, DidLine}
-use Rattle.adsc_run.proofs.LimitLaws.{before_more}
+use Rattle.adsc_io.proofs.LimitLaws.{before_more}
 
 -- runs of what is before, of which the first part was done so
 abbrev pub RunsOn : Bool → Setting → ℕ → List (List ℕ) → List Entry → List RefusedLine → List (List ℕ) → Type 0

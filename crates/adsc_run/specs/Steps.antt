@@ -84,7 +84,8 @@ abbrev pub setting_with : Who → List (List ℕ) → FlightSample → Setting
 setting_with who addresses first =
     record { registration = who.registration; flight = who.flight; airframe = who.airframe; addresses = addresses; first = first }
 
--- A line without a text. Several ground addresses are not built yet, nor are lines of the letters T, E, L, C, K, B and R.
+-- A line without a text. Several ground addresses are not built yet, nor are lines of the letters T, E, L, C, K, B and R. Nothing
+-- else can come here, since the head's letters are given and stand nowhere else.
 abbrev pub line_step : Stage → ℕ → ScriptLine → Step
 line_step begun number (line.A who) = goes (named who) [] []
 line_step (named who) number (line.G addresses) = if length addresses.items == 1 then goes (linked who addresses.items) [] [] else ends run.NotBuilt

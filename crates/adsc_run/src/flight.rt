@@ -1,4 +1,4 @@
-// The lines behind the head of a script: what each does to the aircraft.
+//! The lines behind the head of a script: what each does to the aircraft.
 ghost use Rattle.std.specs.Prelude.{◌≡◌, ◌<◌, ◌≤◌, length, IfOk, IfSome, IsTrue, None, Some, Err, if◌then◌else◌};
 ghost use Rattle.adsc_io.specs.Lines.{IsUnbroken};
 ghost use Rattle.aircraft_core.specs.declared.entry.Entry.TheVariants as entries;

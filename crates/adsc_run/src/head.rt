@@ -1,4 +1,4 @@
-// The head of a script: its three first lines, which make the aircraft.
+//! The head of a script: its three first lines, which make the aircraft.
 ghost use Rattle.std.specs.Prelude.{◌≡◌, ◌≢◌, ◌∷◌, ℕ, List, [], drop, length, IfOk, IfErr};
 ghost use Rattle.adsc_io.specs.Lines.{script_lines};
 ghost use Rattle.adsc_run.specs.Heads.{BeginsSaying, EndsHere, EndsStep, GoesOn, IsInHead};

@@ -8,14 +8,13 @@
 //!
 //! Below stand the crates that read lines, texts and payloads, and the aircraft; above stands the bench with its commands.
 //! Begin with `specs/Readings.antt` (what a line says), `specs/Steps.antt` (what it does) and `specs/Runs.antt` (the run), then
-//! `specs/Output.antt`; the code goes the same way: `reading`, `steps`, `run`, `output`.
+//! `specs/Output.antt`; the code goes the same way: `reading`, `head` and `flight`, `run`, `output`.
 #![tactic(auto)]
 
 mod end;
 mod flight;
 mod head;
 mod laws;
-mod limit;
 mod outcome;
 mod output;
 mod placed;

@@ -13,9 +13,8 @@ ghost use Rattle.adsc_run.specs.Steps.{begun, flying};
 use crate::end::End;
 use crate::flight::Flight;
 use crate::head::{Stop, behind_head, read_head};
-use crate::limit::before_limit;
 use crate::outcome::Outcome;
-use adsc_io::{NoMemory, Source, WholeEnd, next_line, read_whole};
+use adsc_io::{NoMemory, Source, WholeEnd, before_limit, next_line, read_whole};
 use aircraft_core::Craft;
 use std::alloc::Global;
 

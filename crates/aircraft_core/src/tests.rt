@@ -1,4 +1,4 @@
-// Uplinks answered. The texts were made by another program, from the tables of the formats.
+//! Uplinks answered. The texts were made by another program, from the tables of the formats.
 ghost use Rattle.std.specs.Prelude.{◌≡◌, IfOk, length};
 ghost use Rattle.aircraft_core.specs.Entries.{IsOfLinks};
 ghost use Rattle.aircraft_core.specs.Setting.{Setting};

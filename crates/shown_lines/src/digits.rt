@@ -1,4 +1,4 @@
-// Hexadecimal digits with capital letters.
+//! Hexadecimal digits with capital letters.
 ghost use Rattle.std.specs.Prelude.{◌≡◌, ◌≤◌, ◌∷◌, ◌++◌, length, OnOk};
 ghost use Rattle.hex.specs.Hex.{encode_upper};
 ghost use Rattle.acars_envelope.specs.Texts.{four_digits, six_digits};

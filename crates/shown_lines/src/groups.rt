@@ -1,4 +1,4 @@
-// The lines of report groups.
+//! The lines of report groups.
 ghost use Rattle.std.specs.Prelude.{◌≡◌, ◌∷◌, ◌++◌, OnOk, map, unsigned_abs};
 ghost use Rattle.adsc_groups.specs.GroupView.{group_data, flight_id_values, route_values, motion_values, weather_values, intermediate_values, fixed_values};
 ghost use Rattle.shown_lines.specs.Fields.{comma, value_fields};

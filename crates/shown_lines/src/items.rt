@@ -1,4 +1,4 @@
-// The lines of downlink items.
+//! The lines of downlink items.
 ghost use Rattle.std.specs.Prelude.{◌≡◌, ◌++◌, OnOk, codes, map, flat_map};
 ghost use Rattle.adsc_groups.specs.BasicView.{basic_data};
 ghost use Rattle.adsc_groups.specs.Basic.{basic_values};

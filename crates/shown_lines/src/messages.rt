@@ -1,4 +1,4 @@
-// The lines of uplink messages.
+//! The lines of uplink messages.
 ghost use Rattle.std.specs.Prelude.{◌≡◌, ◌++◌, OnOk, flat_map};
 ghost use Rattle.shown_lines.specs.UplinkTexts.{lateral_text, interval_text, modulus_text, moduli_text, vrate_text, range_text, waypoint_text, intent_text, reporting_text, limits_text, message_text};
 

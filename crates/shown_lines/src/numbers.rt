@@ -1,4 +1,4 @@
-// Numbers as fields of a line of text.
+//! Numbers as fields of a line of text.
 ghost use Rattle.std.specs.Prelude.{◌≡◌, ◌++◌, OnOk, decimal};
 ghost use Rattle.adsc_io.specs.Lines.{ended};
 ghost use Rattle.shown_lines.specs.Fields.{number_field, signed_field, value_fields};

@@ -1,4 +1,4 @@
-// The line of a refusal.
+//! The line of a refusal.
 ghost use Rattle.std.specs.Prelude.{◌≡◌, ◌++◌, OnOk};
 ghost use Rattle.shown_lines.specs.Texts.{envelope_code, envelope_fields, envelope_fault_fields, request_fault_fields, payload_code, refusal_fields, refusal_text};
 

@@ -1,4 +1,4 @@
-// Whole inputs and what is shown for them. The texts were made by another program, from the tables of the formats.
+//! Whole inputs and what is shown for them. The texts were made by another program, from the tables of the formats.
 use super::*;
 use std::alloc::Global;
 use std::test::Fail;

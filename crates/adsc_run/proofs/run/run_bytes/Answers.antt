@@ -3,7 +3,7 @@ use Rattle.std.proofs.lemmas.Result.{IfOk-weaker}
 use Rattle.adsc_run.specs.OutcomeView.{run_of}
 use Rattle.adsc_run.specs.Runs.{LinesRun}
 use Rattle.adsc_run.specs.Steps.{begun}
-use Rattle.adsc_run.proofs.LimitLaws.{few_before}
+use Rattle.adsc_io.proofs.LimitLaws.{few_before}
 use Rattle.adsc_run.proofs.run.run_bytes.Goals as goal
 
 pub run_lines-requires : goal.run_lines-requires

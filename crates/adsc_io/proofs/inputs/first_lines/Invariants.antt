@@ -1,5 +1,5 @@
-use Rattle.adsc_run.proofs.LimitLaws.{IsPassed}
-use Rattle.adsc_run.proofs.limit.first_lines.Given as goal
+use Rattle.adsc_io.proofs.LimitLaws.{IsPassed}
+use Rattle.adsc_io.proofs.inputs.first_lines.Given as goal
 
 -- as many lines as turns were made were passed
 abbrev pub invariant-loop : goal.invariant-loop

@@ -1,8 +1,8 @@
 use Rattle.std.proofs.Common.{sym, arith}
 use Rattle.std.proofs.lemmas.List.{length-take-le}
 use Rattle.adsc_io.specs.Limits.{max_script_bytes}
-use Rattle.adsc_run.proofs.LimitLaws.{over_within}
-use Rattle.adsc_run.proofs.limit.before_limit.Goals as goal
+use Rattle.adsc_io.proofs.LimitLaws.{over_within}
+use Rattle.adsc_io.proofs.inputs.before_limit.Goals as goal
 
 pub slice_bounds-whole_lines-end : goal.slice_bounds-whole_lines-end
 slice_bounds-whole_lines-end c = sym (length-take-le max_script_bytes c.args.bytes.now (omega (arith, c.if-bytes-gt-MAX_SCRIPT_BYTES.true)))

@@ -3,8 +3,8 @@ use Rattle.std.proofs.lemmas.List.{nil_from_length}
 use Rattle.std.proofs.lemmas.Bool.Decides.{nat_tests}
 use Rattle.adsc_io.specs.Lines.{script_lines}
 use Rattle.adsc_io.specs.Limits.{max_script_lines}
-use Rattle.adsc_run.proofs.LimitLaws.{all_passed, line_passed, passed_front, some_left}
-use Rattle.adsc_run.proofs.limit.first_lines.Goals as goal
+use Rattle.adsc_io.proofs.LimitLaws.{all_passed, line_passed, passed_front, some_left}
+use Rattle.adsc_io.proofs.inputs.first_lines.Goals as goal
 
 pub returns-in-None-clause-lines : goal.returns-in-None-clause-lines
 returns-in-None-clause-lines c =
