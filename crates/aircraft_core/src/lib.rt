@@ -8,7 +8,7 @@
 //! sample, and a payload that can't be read by a negative acknowledgement where the link is live. The items of an entry make one
 //! downlink.
 //!
-//! The bench (`adsc_bench`) stands above. Begin with `specs/Downlinks.antt`, which says what is due, and then `craft`; `taking` has what
+//! The run of a script (`adsc_run`) stands above. Begin with `specs/Downlinks.antt`, which says what is due, and then `craft`; `taking` has what
 //! an entry does, `answers`, `reports` and `groups` the items, `downlink` their text. What the code computes for demands is defined in
 //! `specs/Quiet.antt`, and `proofs/QuietLaws.antt` proves that it is what the rules make due. `laws` has the law that a journal makes one
 //! list of downlinks due.
