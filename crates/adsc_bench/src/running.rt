@@ -10,8 +10,8 @@ use std::alloc::Global;
 /// Reads a script from the source, runs it on one worker, and writes its output to the sink. This project's profile.
 ///
 /// Lines are judged in order. Samples and texts from the ground are carried out; the first bad line, or the limit of lines or
-/// bytes, ends the run. Where a right line says what is not built yet, before any bad line and before the limit, nothing is written and the status
-/// is `NotBuilt`. What each status promises is stated by the clause; want of memory alone is free.
+/// bytes, ends the run. Where a right line says what is not built yet, before any bad line and before the limit, nothing is
+/// written and the status is `NotBuilt`. What each status promises is stated by the clause; want of memory alone is free.
 pub fn run<S: Source, K: Sink>(alloc: Global, source: &mut S, sink: &mut K) -> Status
     ensures { Runs
         (record { left = S.left source.old; read_faults = S.faults source.old; written = K.written sink.old; write_faults = K.faults sink.old })

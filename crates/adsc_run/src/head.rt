@@ -3,7 +3,7 @@ ghost use Rattle.std.specs.Prelude.{◌≡◌, ◌≢◌, ◌∷◌, ℕ, List, 
 ghost use Rattle.adsc_io.specs.Lines.{script_lines};
 ghost use Rattle.adsc_run.specs.Heads.{BeginsSaying, EndsHere, EndsStep, GoesOn, IsInHead};
 ghost use Rattle.adsc_run.specs.Runs.{end_behind};
-ghost use Rattle.adsc_run.specs.Steps.{Stage, begun, named, linked, flying, goes, ends, line_step, setting_with};
+ghost use Rattle.adsc_run.specs.Steps.{Stage, begun, named, linked, flying, goes, line_step, setting_with};
 ghost use Rattle.aircraft_core.specs.declared.who.Who.{Who as WhoValue};
 
 use crate::end::End;

@@ -1,7 +1,6 @@
 //! The run of a script, from its source to its outcome.
-ghost use Rattle.std.specs.Prelude.{◌≡◌, ◌≢◌, ◌≤◌, ◌+◌, length, IfOk, Err, [], Some};
+ghost use Rattle.std.specs.Prelude.{◌≡◌, ◌≢◌, ◌≤◌, length, IfOk, IfSome, Err, []};
 ghost use Rattle.std.specs.Io.KnownBytes.{IsAtEnd};
-ghost use Rattle.std.specs.Prelude.{IfSome};
 ghost use Rattle.adsc_io.specs.Causes.{Rose};
 ghost use Rattle.adsc_io.specs.Limits.{max_script_lines};
 ghost use Rattle.adsc_io.specs.Lines.{script_lines};
