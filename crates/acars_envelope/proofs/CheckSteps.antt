@@ -1,17 +1,23 @@
 -- The register of the check code against long division.
-use Rattle.std.proofs.Common.{◌≡◌, ℕ, zero, suc, ◌+◌, ◌-◌, ◌*◌, ◌/◌, ◌%◌, ◌^◌, ◌<◌, ◌≤◌, ◌==◌, Bool, true, false, not, List, [], ◌∷◌, ◌++◌, length, take, get_or, replicate, map, refl, sym, ap, ◌∙◌, arith, add-zero, zero-add}
+use Rattle.std.proofs.Common.{◌≡◌, ℕ, zero, suc, ◌+◌, ◌-◌, ◌*◌, ◌/◌, ◌%◌, ◌^◌, ◌<◌, ◌≤◌, ◌==◌, Bool, true, false, not, List, [], ◌∷◌, ◌++◌, length, take, get_or, replicate, map, refl, sym, ap, ap₂, ◌∙◌, arith, add-zero, zero-add, lit<}
 use Rattle.std.specs.Int.{bit_at, bit_not, w16}
 use Rattle.std.specs.Int.Bits.{bit_xor}
-use Rattle.std.proofs.lemmas.Nat.Bits.{bit_at_xor, bit_at_not, bit_at-lt, bit_at_lowest}
-use Rattle.std.proofs.lemmas.Nat.{shr-shr}
-use Rattle.std.proofs.lemmas.List.{append_assoc, append-nil, length-append, take_more}
+use Rattle.std.proofs.lemmas.Nat.Bits.{bit_at_xor, bit_at_not, bit_at-lt, bit_at-zero}
+use Rattle.std.proofs.lemmas.Nat.{xor_comm}
+use Rattle.std.proofs.lemmas.List.{append_assoc, append-nil, length-append, take_more, take_at, drop_at}
 use Rattle.bit_terms.specs.Bits.{unsigned_bits}
-use Rattle.bit_terms.specs.Octets.{octets_bits, number_of}
-use Rattle.bit_terms.proofs.BitsLaws.{length-unsigned_bits, unsigned_bits-split, unsigned_bits-mod}
-use Rattle.bit_terms.proofs.OctetsLaws.{octets_bits-append, number_of-unsigned_bits}
-use Rattle.acars_envelope.specs.Check.{bit_sum, add_at_front, divided, dividend, generator_rest, check_of}
+use Rattle.bit_terms.specs.Octets.{octets_bits, number_spelled}
+use Rattle.bit_terms.proofs.BitsLaws.{length-unsigned_bits, unsigned_bits-split, unsigned_bits-join, unsigned_bits-mod}
+use Rattle.bit_terms.proofs.OctetsLaws.{octets_bits-append, number_spelled-unsigned_bits}
+use Rattle.acars_envelope.specs.Check.{bit_sum, add_at_front, divided, dividend, check_of, octet_remainder}
 use Rattle.acars_envelope.specs.Register.{Absorbs}
-use Rattle.acars_envelope.proofs.DivisionLaws.{add_assoc_same, add_nothing, add_to_zeros, bit_sum_none}
+use Rattle.acars_envelope.proofs.DivisionLaws.{add_assoc_same, add_to_pieces, add_to_zeros, add_with_zeros_behind, divided_past}
+
+-- the bits of 0
+unsigned_bits_of_zero : (width : ℕ) → unsigned_bits width 0 ≡ replicate width false
+unfolding unsigned_bits
+unsigned_bits_of_zero zero = refl
+unsigned_bits_of_zero (suc width) = ap₂ (λ (bit : ℕ) bits. (bit == 1) ∷ bits) (bit_at-zero width) (unsigned_bits_of_zero width)
 
 -- one bit of a sum without carries
 bit_of_sum : (a b : ℕ) → a < 2 → b < 2 → ((a + b) % 2 == 1) ≡ bit_sum (a == 1) (b == 1)
@@ -47,70 +53,6 @@ unsigned_bits-not_below (suc width) n fits within =
     rw (bit_at_not w16 n width fits (omega arith)) (bit_of_not (bit_at n width) (bit_at-lt n width)) in
     cc (unsigned_bits-not_below width n fits (omega arith))
 
--- a zero behind an addend changes nothing
-add_with_zero_behind : (p q : List Bool) → add_at_front p (q ++ false ∷ []) ≡ add_at_front p q
-add_with_zero_behind [] q = refl
-add_with_zero_behind (a ∷ p) [] = rw (bit_sum_none a, add_nothing p) refl
-add_with_zero_behind (a ∷ p) (b ∷ q) = ap (λ (s : List Bool). bit_sum a b ∷ s) (add_with_zero_behind p q)
-
--- a step of division at a coefficient that the register cancels
-step_at_zero : (n : ℕ) (rest low : List Bool) (bit top : Bool) → bit_sum bit top ≡ false
-    → divided (suc n) (add_at_front (bit ∷ rest) (top ∷ low)) ≡ divided n (add_at_front rest (low ++ false ∷ []))
-step_at_zero n rest low bit top cancels = rw cancels (ap (divided n) (sym (add_with_zero_behind rest low)))
-
--- a step of division at a coefficient that is left
-step_at_one : (n : ℕ) (rest low : List Bool) (bit top : Bool) → length low ≡ 15 → bit_sum bit top ≡ true
-    → divided (suc n) (add_at_front (bit ∷ rest) (top ∷ low)) ≡ divided n (add_at_front rest (add_at_front (low ++ false ∷ []) generator_rest))
-step_at_one n rest low bit top long left =
-    let same : length (low ++ false ∷ []) ≡ length generator_rest = omega (arith, length-append low (false ∷ []), long) in
-    rw left (ap (divided n) (
-    ap (λ (s : List Bool). add_at_front s generator_rest) (sym (add_with_zero_behind rest low))
-    ∙ add_assoc_same rest (low ++ false ∷ []) generator_rest same))
-
--- one more step
-one_more : (n : ℕ) → 1 + n ≡ suc n
-one_more n = omega arith
-
--- the one lowest bit
-lowest_bit : (n : ℕ) → unsigned_bits 1 n ≡ (n % 2 == 1) ∷ []
-unfolding unsigned_bits
-lowest_bit n = rw (bit_at_lowest n) refl
-
--- the register's bits: the highest, then the fifteen below it
-register_bits : (r : ℕ) → unsigned_bits 16 r ≡ (bit_at r 15 == 1) ∷ unsigned_bits 15 r
-unfolding unsigned_bits
-register_bits r = refl
-
--- the register's lower fifteen bits moved up by one place
-moved_up : (r : ℕ) → unsigned_bits 16 (r % 2 ^ 15 * 2) ≡ unsigned_bits 15 r ++ false ∷ []
-moved_up r =
-    let half : r % 2 ^ 15 * 2 / 2 ^ 1 ≡ r % 2 ^ 15 = omega arith in
-    let even : r % 2 ^ 15 * 2 % 2 ≡ 0 = omega arith in
-    unsigned_bits-split 15 1 (r % 2 ^ 15 * 2)
-    ∙ rw (half, unsigned_bits-mod 15 r, lowest_bit (r % 2 ^ 15 * 2), even) refl
-
--- the generator below its highest power, as a number
-generator_bits : unsigned_bits 16 0x1021 ≡ generator_rest
-unfolding unsigned_bits
-generator_bits = refl
-
--- the step of the register at a bit that its highest one cancels
-pub absorbs_zero : (r after : ℕ) (bit : Bool) → bit_sum bit (bit_at r 15 == 1) ≡ false → after ≡ r % 2 ^ 15 * 2
-    → Absorbs r (bit ∷ []) after
-absorbs_zero r after bit cancels is = record {
-  by = λ n rest.
-      rw (register_bits r, one_more n, is, moved_up r) (step_at_zero n rest (unsigned_bits 15 r) bit (bit_at r 15 == 1) cancels);
-}
-
--- and at one that leaves a coefficient of 1
-pub absorbs_one : (r after : ℕ) (bit : Bool) → bit_sum bit (bit_at r 15 == 1) ≡ true → after ≡ bit_xor (r % 2 ^ 15 * 2) 0x1021
-    → Absorbs r (bit ∷ []) after
-absorbs_one r after bit left is = record {
-  by = λ n rest.
-      rw (register_bits r, one_more n, is, unsigned_bits-xor 16 (r % 2 ^ 15 * 2) 0x1021, moved_up r, generator_bits)
-      (step_at_one n rest (unsigned_bits 15 r) bit (bit_at r 15 == 1) (length-unsigned_bits 15 r) left);
-}
-
 -- no bits change nothing
 pub absorbs_nothing : (r : ℕ) → Absorbs r [] r
 absorbs_nothing r = record { by = λ n rest. rw (zero-add n) refl }
@@ -138,23 +80,43 @@ check_from_register octets register fits absorbs =
     ∙ add_to_zeros 16 (unsigned_bits 16 register) (length-unsigned_bits 16 register) in
     let turned : bit_not w16 register < 2 ^ 16 = omega arith in
     sym (
-    ap (λ (left : List Bool). number_of (map not left)) all_steps
-    ∙ ap number_of (unsigned_bits-not_below 16 register fits (omega arith))
-    ∙ number_of-unsigned_bits 16 (bit_not w16 register) turned)
+    ap (λ (left : List Bool). number_spelled (map not left)) all_steps
+    ∙ ap number_spelled (unsigned_bits-not_below 16 register fits (omega arith))
+    ∙ number_spelled-unsigned_bits 16 (bit_not w16 register) turned)
 
--- the loop over the bits of an octet, one bit on
-pub absorbs_next_bit : (r s t octet place : ℕ) (bit : Bool) → place < 8
-    → bit ≡ (octet / 2 ^ (7 - place) % 2 == 1)
-    → Absorbs r (unsigned_bits place (octet / 2 ^ (8 - place))) s → Absorbs s (bit ∷ []) t
-    → Absorbs r (unsigned_bits (place + 1) (octet / 2 ^ (8 - (place + 1)))) t
-absorbs_next_bit r s t octet place bit below is before step =
-    let next : 8 - (place + 1) ≡ 7 - place = omega arith in
-    let earlier : octet / 2 ^ (7 - place) / 2 ^ 1 ≡ octet / 2 ^ (8 - place) =
-    let count : 7 - place + 1 ≡ 8 - place = omega arith in
-    rw (shr-shr octet (7 - place) 1, count) refl in
-    let bits : unsigned_bits (place + 1) (octet / 2 ^ (8 - (place + 1))) ≡ unsigned_bits place (octet / 2 ^ (8 - place)) ++ bit ∷ [] =
-    rw next (unsigned_bits-split place 1 (octet / 2 ^ (7 - place)) ∙ rw (earlier, lowest_bit (octet / 2 ^ (7 - place)), is) refl) in
-    rw bits (absorbs_then r s t _ _ before step)
+-- The step of the register: its upper half and the octet are divided at once, by the remainder of their sum.
+pub absorbs_octet : (r octet upper left after : ℕ) → upper ≡ r / 2 ^ 8 → after ≡ bit_xor (r % 2 ^ 8 * 2 ^ 8) left
+    → unsigned_bits 16 left ≡ octet_remainder (bit_xor upper octet) → Absorbs r (unsigned_bits 8 octet) after
+absorbs_octet r octet upper left after is_upper is_after is_left =
+    let bits = unsigned_bits 8 octet in
+    let high = unsigned_bits 8 (r / 2 ^ 8) in
+    let low = unsigned_bits 8 r in
+    let zeros : List Bool = replicate 8 false in
+    let L = unsigned_bits 16 left in
+    let eight : length bits ≡ 8 = length-unsigned_bits 8 octet in
+    let as_long : length high ≡ length bits = length-unsigned_bits 8 (r / 2 ^ 8) ∙ sym eight in
+    let sum : add_at_front bits high ≡ unsigned_bits 8 (bit_xor upper octet) =
+    sym (unsigned_bits-xor 8 octet (r / 2 ^ 8)) ∙ ap (unsigned_bits 8) (xor_comm octet (r / 2 ^ 8) ∙ ap (λ (u : ℕ). bit_xor u octet) (sym is_upper)) in
+    let moved : unsigned_bits 16 (r % 2 ^ 8 * 2 ^ 8) ≡ low ++ zeros =
+    ap (unsigned_bits 16) (sym (add-zero (r % 2 ^ 8 * 2 ^ 8)))
+    ∙ unsigned_bits-join 8 8 (r % 2 ^ 8) 0 (lit< tt)
+    ∙ rw (unsigned_bits-mod 8 r, unsigned_bits_of_zero 8) refl in
+    let after_bits : unsigned_bits 16 after ≡ add_at_front (low ++ zeros) L =
+    ap (unsigned_bits 16) is_after ∙ unsigned_bits-xor 16 (r % 2 ^ 8 * 2 ^ 8) left ∙ ap (λ (s : List Bool). add_at_front s L) moved in
+    let size : length (low ++ zeros) ≡ length L =
+    omega (arith, length-append low zeros, length-unsigned_bits 8 r, length-unsigned_bits 16 left) in
+    record {
+      by = λ n rest.
+          let pieces : add_at_front (bits ++ rest) (unsigned_bits 16 r) ≡ unsigned_bits 8 (bit_xor upper octet) ++ add_at_front rest low =
+          ap (add_at_front (bits ++ rest)) (unsigned_bits-split 8 8 r)
+          ∙ add_to_pieces bits rest (high ++ low)
+          ∙ rw (take_at high low (length bits) as_long, drop_at high low (length bits) as_long, sum) refl in
+          let joined : add_at_front rest (unsigned_bits 16 after) ≡ add_at_front (add_at_front rest low) L =
+          ap (add_at_front rest) after_bits
+          ∙ sym (add_assoc_same rest (low ++ zeros) L size)
+          ∙ ap (λ (s : List Bool). add_at_front s L) (add_with_zeros_behind 8 rest low) in
+          rw (eight, pieces, joined, is_left) (divided_past 8 n (unsigned_bits 8 (bit_xor upper octet)) (add_at_front rest low) (length-unsigned_bits 8 (bit_xor upper octet)));
+    }
 
 -- the loop over octets, one octet on
 pub absorbs_next_octet : (r s t : ℕ) (octets : List ℕ) (i octet : ℕ) → i < length octets → octet ≡ get_or octets i 0

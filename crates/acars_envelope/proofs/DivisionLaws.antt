@@ -1,6 +1,6 @@
 -- Sums of polynomials, and that long division leaves a remainder.
-use Rattle.std.proofs.Common.{◌≡◌, ℕ, zero, suc, ◌+◌, Bool, true, false, List, [], ◌∷◌, ◌++◌, length, replicate, refl, sym, ap, ◌∙◌, arith}
-use Rattle.std.proofs.Math.Bool.{beq}
+use Rattle.std.proofs.Common.{◌≡◌, ℕ, zero, suc, ◌+◌, ◌≤◌, Bool, true, false, List, [], ◌∷◌, ◌++◌, length, take, drop, replicate, refl, sym, ap, ◌∙◌, arith, zero-add}
+use Rattle.std.proofs.lemmas.List.{length-append, length-drop}
 use Rattle.acars_envelope.specs.Check.{bit_sum, add_at_front, generator_rest, divided, times_generator, IsRemainder}
 
 -- the order in which two coefficients are added to a third does not matter
@@ -29,19 +29,6 @@ bit_sum_assoc true true true = refl
 pub bit_sum_none : (a : Bool) → bit_sum a false ≡ a
 bit_sum_none false = refl
 bit_sum_none true = refl
-
--- coefficients that are the same cancel, and others leave 1
-pub bit_sum_same : (a b : Bool) → beq a b ≡ true → bit_sum b a ≡ false
-bit_sum_same false false same = refl
-bit_sum_same false true same = cc
-bit_sum_same true false same = cc
-bit_sum_same true true same = refl
-
-pub bit_sum_other : (a b : Bool) → beq a b ≡ false → bit_sum b a ≡ true
-bit_sum_other false false other = cc
-bit_sum_other false true other = refl
-bit_sum_other true false other = refl
-bit_sum_other true true other = cc
 
 -- nothing added
 pub add_nothing : (p : List Bool) → add_at_front p [] ≡ p
@@ -83,6 +70,70 @@ add_to_zeros zero [] same = refl
 add_to_zeros zero (b ∷ q) same = absurd (omega arith)
 add_to_zeros (suc n) [] same = absurd (omega arith)
 add_to_zeros (suc n) (b ∷ q) same = ap (λ (rest : List Bool). b ∷ rest) (add_to_zeros n q (omega arith))
+
+-- no addend, and zeros added, change nothing
+add_zeros : (n : ℕ) (p : List Bool) → add_at_front p (replicate n false) ≡ p
+add_zeros zero p = add_nothing p
+add_zeros (suc n) [] = refl
+add_zeros (suc n) (a ∷ p) = rw (bit_sum_none a, add_zeros n p) refl
+
+-- zeros behind an addend change nothing
+pub add_with_zeros_behind : (n : ℕ) (p q : List Bool) → add_at_front p (q ++ replicate n false) ≡ add_at_front p q
+add_with_zeros_behind n [] q = refl
+add_with_zeros_behind n (a ∷ p) [] = add_zeros n (a ∷ p)
+add_with_zeros_behind n (a ∷ p) (b ∷ q) = ap (λ (s : List Bool). bit_sum a b ∷ s) (add_with_zeros_behind n p q)
+
+-- an addend of no more than n coefficients, filled up to n by zeros
+add_filled : (n : ℕ) (p q : List Bool) → length q ≤ n → add_at_front p (add_at_front (replicate n false) q) ≡ add_at_front p q
+add_filled n p [] few = rw (add_nothing (replicate n false), add_zeros n p, add_nothing p) refl
+add_filled zero p (b ∷ q) few = absurd (omega arith)
+add_filled (suc n) [] (b ∷ q) few = refl
+add_filled (suc n) (a ∷ p) (b ∷ q) few = ap (λ (s : List Bool). bit_sum a b ∷ s) (add_filled n p q (omega arith))
+
+-- a sum with two pieces, piece by piece
+pub add_to_pieces : (p rest q : List Bool)
+    → add_at_front (p ++ rest) q ≡ add_at_front p (take (length p) q) ++ add_at_front rest (drop (length p) q)
+add_to_pieces [] rest q = refl
+add_to_pieces (a ∷ p) rest [] = rw (add_nothing rest) refl
+add_to_pieces (a ∷ p) rest (b ∷ q) = ap (λ (s : List Bool). bit_sum a b ∷ s) (add_to_pieces p rest q)
+
+-- each step of division takes one coefficient away
+pub length-divided : (n m : ℕ) (p : List Bool) → length p ≡ n + m → length (divided n p) ≡ m
+length-divided zero m p size = omega arith
+length-divided (suc n) m [] size = absurd (omega arith)
+length-divided (suc n) m (false ∷ p) size = length-divided n m p (omega arith)
+length-divided (suc n) m (true ∷ p) size = length-divided n m (add_at_front p generator_rest) (omega (arith, length-add p generator_rest))
+
+-- Division past the first coefficients goes on as division of what follows, with the remainder of those first ones times
+-- x^16 added.
+pub divided_past : (m n : ℕ) (first rest : List Bool) → length first ≡ m
+    → divided (m + n) (first ++ rest) ≡ divided n (add_at_front rest (divided m (first ++ replicate 16 false)))
+divided_past zero n [] rest size = rw (zero-add n, add_zeros 16 rest) refl
+divided_past zero n (a ∷ first) rest size = absurd (omega arith)
+divided_past (suc m) n [] rest size = absurd (omega arith)
+divided_past (suc m) n (false ∷ first) rest size =
+    let one_more : suc m + n ≡ suc (m + n) = omega arith in
+    rw one_more (divided_past m n first rest (omega arith))
+divided_past (suc m) n (true ∷ first) rest size =
+    let one_more : suc m + n ≡ suc (m + n) = omega arith in
+    let same : length first ≡ m = omega arith in
+    let lower = add_at_front first (take (length first) generator_rest) in
+    let beyond = drop (length first) generator_rest in
+    let zeros : List Bool = replicate 16 false in
+    let left = divided m (lower ++ zeros) in
+    let size' : length lower ≡ m = omega (arith, length-add first (take (length first) generator_rest)) in
+    let few : length beyond ≤ 16 = omega (arith, length-drop (length first) generator_rest) in
+    let zeros_size : length (add_at_front zeros beyond) ≡ 16 = length-add zeros beyond in
+    let left_size : length left ≡ 16 = length-divided m 16 (lower ++ zeros) (omega (arith, length-append lower zeros)) in
+    let no_more : m + 0 ≡ m = omega arith in
+    let whole : divided (m + n) (add_at_front (first ++ rest) generator_rest) ≡ divided n (add_at_front (add_at_front rest beyond) left) =
+    rw (add_to_pieces first rest generator_rest) (divided_past m n lower (add_at_front rest beyond) size') in
+    let alone : divided m (add_at_front (first ++ zeros) generator_rest) ≡ add_at_front (add_at_front zeros beyond) left =
+    rw (add_to_pieces first zeros generator_rest) (rw no_more at (divided_past m 0 lower (add_at_front zeros beyond) size')) in
+    let joined : add_at_front rest (add_at_front (add_at_front zeros beyond) left) ≡ add_at_front (add_at_front rest beyond) left =
+    sym (add_assoc_same rest (add_at_front zeros beyond) left (omega arith))
+    ∙ ap (λ (s : List Bool). add_at_front s left) (add_filled 16 rest beyond few) in
+    rw one_more (whole ∙ ap (divided n) (sym joined ∙ ap (add_at_front rest) (sym alone)))
 
 -- a step of division with the generator taken off, undone
 taken_off : (p t z : List Bool) → add_at_front p generator_rest ≡ add_at_front t z

@@ -16,7 +16,7 @@ use Rattle.std.proofs.lemmas.Bool.{and_parts, leb-true}
 use Rattle.std.proofs.lemmas.List.{append_assoc}
 use Rattle.std.proofs.lemmas.List.Sums.{AllPass-from_list_all}
 use Rattle.acars_envelope.proofs.FaultLaws.{one_first_fault}
-use Rattle.acars_envelope.proofs.DigitsLaws.{same_octets}
+use Rattle.acars_envelope.proofs.CapitalDigits.{same_octets}
 use Rattle.acars_envelope.proofs.PassingLaws.{address_at, behind_head}
 use Rattle.acars_envelope.proofs.SealedLaws.{AfnText, ads_text, afn_text, not_both, sealed_has_no_fault}
 

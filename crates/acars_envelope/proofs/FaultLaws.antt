@@ -12,7 +12,7 @@ use Rattle.acars_envelope.specs.Bodies.{is_text_character}
 use Rattle.acars_envelope.specs.Check.{check_of}
 use Rattle.acars_envelope.specs.Faults.{IsAdsFault, IsAfnFault, IsBodyFault, IsFirstBad, IsFirstEnvelopeFault, IsFirstWrong, IsHeadFault, IsImiFault, IsPayloadCheckFault, IsPayloadDigitFault, IsPayloadSizeFault, IsRegistrationFault, IsTextCharacterFault, IsTextCheckFault, IsTextDigitFault, IsTextSizeFault, IsWrongCheck, is_right_digit, is_right_in_head, is_right_in_registration, why_in_head, why_in_registration, ◌OrElse◌}
 use Rattle.acars_envelope.specs.Names.{is_mark_character}
-use Rattle.acars_envelope.proofs.DigitsLaws.{same_octets}
+use Rattle.acars_envelope.proofs.CapitalDigits.{same_octets}
 use Rattle.acars_envelope.proofs.PassingLaws.{same_code, seven_places}
 use Rattle.acars_envelope.proofs.RegistrationLaws.{no_first_bad}
 use Rattle.acars_envelope.proofs.SealedLaws.{not_both}

@@ -1,6 +1,6 @@
 pub mod DivisionLaws
 pub mod CheckSteps
-pub mod DigitsLaws
+pub mod CapitalDigits
 pub mod TextLaws
 pub mod RegistrationLaws
 pub mod PassingLaws

@@ -11,7 +11,7 @@ use Rattle.hex.proofs.HexLemmas.{length-encode_with}
 use Rattle.acars_envelope.specs.Faults.{AreRight, is_head_character, is_right_in_head, is_right_in_registration, may_follow}
 use Rattle.acars_envelope.specs.Names.{IsAddress, IsMark, IsRegistration, is_mark_character, is_name_character, with_dots}
 use Rattle.acars_envelope.specs.Texts.{four_digits}
-use Rattle.acars_envelope.proofs.DigitsLaws.{same_octets}
+use Rattle.acars_envelope.proofs.CapitalDigits.{same_octets}
 use Rattle.acars_envelope.proofs.RegistrationLaws.{no_dot}
 
 -- ---- the head

@@ -17,7 +17,7 @@ use Rattle.acars_envelope.specs.Check.{check_of}
 use Rattle.acars_envelope.specs.Faults.{is_capital_digit}
 use Rattle.acars_envelope.specs.Names.{IsAddress, IsRegistration, is_mark_character, is_name_character}
 use Rattle.acars_envelope.specs.Texts.{IsEnvelopeText, four_digits, sealed_text}
-use Rattle.acars_envelope.proofs.DigitsLaws.{digits_are_capital}
+use Rattle.acars_envelope.proofs.CapitalDigits.{digits_are_capital}
 use Rattle.acars_envelope.proofs.PassingLaws.{code_bytes}
 use Rattle.acars_envelope.proofs.SealedLaws.{check_of-lt}
 

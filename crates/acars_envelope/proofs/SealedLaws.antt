@@ -8,7 +8,7 @@ use Rattle.std.proofs.lemmas.List.{append-nil, append_assoc, length-append, leng
 use Rattle.std.proofs.lemmas.List.Elements.{All-append}
 use Rattle.std.proofs.lemmas.List.Sums.{AllPass-from_list_all}
 use Rattle.bit_terms.specs.Octets.{octets_bits}
-use Rattle.bit_terms.proofs.OctetsLaws.{number_of-lt}
+use Rattle.bit_terms.proofs.OctetsLaws.{number_spelled-lt}
 use Rattle.hex.specs.Hex.{IsBytes, encode_upper, upper_digits}
 use Rattle.hex.proofs.HexLemmas.{length-encode_with}
 use Rattle.acars_envelope.specs.declared.refusal.EnvelopeRefusal.{EnvelopeRefusal}
@@ -21,7 +21,7 @@ use Rattle.acars_envelope.specs.Faults.{AreRight, IsAdsFault, IsAfnFault, IsBody
 use Rattle.acars_envelope.specs.Names.{IsAddress, IsRegistration}
 use Rattle.acars_envelope.specs.Texts.{four_digits, sealed_text}
 use Rattle.acars_envelope.proofs.DivisionLaws.{divided_leaves, length-add}
-use Rattle.acars_envelope.proofs.DigitsLaws.{digits_are_capital, same_octets}
+use Rattle.acars_envelope.proofs.CapitalDigits.{digits_are_capital, same_octets}
 use Rattle.acars_envelope.proofs.PassingLaws.{AreRight-piece, behind_head, behind_piece, code_bytes, head_places, length-four_digits, length-registration, piece_at, registration_has_mark, registration_places, same_code}
 use Rattle.acars_envelope.proofs.RegistrationLaws.{no_first_bad, no_first_wrong, no_registration_fault}
 
@@ -35,7 +35,7 @@ check_of-lt octets =
     let left = divided_leaves (length message) (dividend message) size in
     let bits : length (map not (divided (length message) (dividend message))) ≡ 16 =
     length-map (divided (length message) (dividend message)) not ∙ left.below in
-    rw bits at (number_of-lt (map not (divided (length message) (dividend message))))
+    rw bits at (number_spelled-lt (map not (divided (length message) (dividend message))))
 
 -- a text whose last four digits are those of the due code has no wrong check
 no_wrong_check : (text : List ℕ) (due : ℕ) → due < 2 ^ 16 → drop (length text - 4) text ≡ four_digits due

@@ -10,8 +10,9 @@ ghost use Rattle.acars_envelope.specs.Faults.{AreRight, IsAdsFault, IsFirstBad, 
 ghost use Rattle.acars_envelope.specs.Names.{IsRegistration};
 ghost use Rattle.acars_envelope.specs.Texts.{four_digits};
 
-use crate::digits::{check_digits, check_last_digits, decoded};
+use crate::decoding::decoded;
 use crate::names::Registration;
+use crate::places::{check_digits, check_last_digits};
 use crate::refusal::{EnvelopeRefusal, EnvelopeWhy, refused};
 use crate::texts::Body;
 use crate::writer::check_of_ads;
@@ -97,7 +98,8 @@ fn follows(before: u8, character: u8) -> bool
 /// Tests the digits from place 19 on, as far as a payload and a check can reach.
 fn check_payload_digits(text: &[u8]) -> Result<(), EnvelopeRefusal>
     requires { 19 ≤ length text.now }
-    ensures right { OnOk result (AreRight (is_right_digit text.now) 19 (min 533 (length text.now))) }
+    ensures right { OnOk result
+        (AreRight (is_right_digit text.now) 19 (min 533 (length text.now))) }
     ensures fault { IfErr result (λ r. IsPayloadDigitFault text.now r) }
     ensures passed { OnOk result ((r : EnvelopeRefusal) → IsPayloadDigitFault text.now r → ⊥) }
 {

@@ -6,8 +6,8 @@ ghost use Rattle.acars_envelope.specs.Check.{check_of};
 ghost use Rattle.acars_envelope.specs.Faults.{AreRight, IsAfnFault, IsFor, IsTextCharacterFault, IsTextDigitFault, IsTextSizeFault, is_right_digit};
 ghost use Rattle.acars_envelope.specs.Texts.{four_digits};
 
-use crate::digits::{check_digits, check_last_digits};
-use crate::hexadecimal::held;
+use crate::pieces::held;
+use crate::places::{check_digits, check_last_digits};
 use crate::refusal::{EnvelopeRefusal, EnvelopeWhy, refused};
 use crate::texts::Body;
 use crate::writer::check_of_afn;
@@ -50,8 +50,8 @@ fn check_text_size(text: &[u8]) -> Result<(), EnvelopeRefusal>
 fn check_text_characters(text: &[u8]) -> Result<(), EnvelopeRefusal>
     requires long { 17 ≤ length text.now }
     requires short { length text.now ≤ 271 }
-    ensures right { OnOk result
-        (AreRight (λ place. is_text_character (slice_index text.now place)) 12 (length text.now - 4)) }
+    ensures right { OnOk result (AreRight
+        (λ place. is_text_character (slice_index text.now place)) 12 (length text.now - 4)) }
     ensures fault { IfErr result (λ r. IsTextCharacterFault text.now r) }
     ensures passed { OnOk result ((r : EnvelopeRefusal) → IsTextCharacterFault text.now r → ⊥) }
 {
@@ -67,7 +67,8 @@ fn check_text_characters(text: &[u8]) -> Result<(), EnvelopeRefusal>
 fn check_text_digits(text: &[u8]) -> Result<(), EnvelopeRefusal>
     requires long { 17 ≤ length text.now }
     requires short { length text.now ≤ 271 }
-    ensures right { OnOk result (AreRight (is_right_digit text.now) (length text.now - 4) (length text.now)) }
+    ensures right { OnOk result
+        (AreRight (is_right_digit text.now) (length text.now - 4) (length text.now)) }
     ensures fault { IfErr result (λ r. IsTextDigitFault text.now r) }
     ensures passed { OnOk result ((r : EnvelopeRefusal) → IsTextDigitFault text.now r → ⊥) }
 {

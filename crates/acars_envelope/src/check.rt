@@ -1,15 +1,14 @@
-//! The check code of a text, by long division bit for bit.
-ghost use Rattle.std.specs.Prelude.{◌≡◌, ℕ, ◌+◌, ◌^◌, ◌<◌, [], ◌∷◌, List, length, Bool};
+//! The check code of a text, by long division octet for octet.
+ghost use Rattle.std.specs.Prelude.{◌≡◌, ℕ, ◌+◌, List, length, Bool};
 ghost use Rattle.bit_terms.specs.Bits.{unsigned_bits};
 ghost use Rattle.bit_terms.specs.Octets.{octets_bits};
 ghost use Rattle.acars_envelope.specs.Check.{check_of, divided, IsRemainder};
 ghost use Rattle.acars_envelope.specs.Register.{Absorbs};
 
+use crate::remainders::remainder;
+
 /// The register before the first octet: ones alone.
 pub(crate) const START: u16 = 0xffff;
-
-/// The generator x^16 + x^12 + x^5 + 1 below its highest power.
-const GENERATOR: u16 = 0x1021;
 
 /// The check code of octets: a cyclic redundancy check of 16 bits with the generator
 /// x^16 + x^12 + x^5 + 1, its register all ones at first, each octet's most significant bit first,
@@ -32,28 +31,13 @@ pub(crate) fn with_octets(register: u16, octets: &[u8]) -> u16
     after
 }
 
-/// The register after one octet.
+/// The register after one octet, which is divided with the register's upper half at once, by the
+/// table of remainders.
 fn with_octet(register: u16, octet: u8) -> u16
     ensures { Absorbs register (unsigned_bits 8 octet) result }
 {
-    let mut after = register;
-    for place in 0..8u8 {
-        let bit = (octet >> (7 - place)) % 2 == 1;
-        after = with_bit(after, bit);
-    }
-    after
-}
-
-/// The register after one bit: a step of the long division.
-fn with_bit(register: u16, bit: bool) -> u16
-    ensures { Absorbs register (bit ∷ []) result }
-{
-    let moved_up = register % 0x8000 * 2;
-    if (register / 0x8000 % 2 == 1) == bit {
-        moved_up
-    } else {
-        moved_up ^ GENERATOR
-    }
+    let upper = (register >> 8) as u8;
+    (register << 8) ^ remainder(upper ^ octet)
 }
 
 /// The law of the check code, as a contract: long division of a polynomial by the generator, in as many

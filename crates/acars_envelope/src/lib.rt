@@ -6,7 +6,7 @@
 //! [`seal`] writes the one text of an [`Envelope`], and [`unseal`] reads it back: it answers an envelope
 //! exactly where the text is that envelope's, and else the text's first bad place with its cause. What a
 //! payload's octets or a facilities notification's characters mean is read by the crates above; this one
-//! carries them. No call takes memory.
+//! carries them. [`append_ads_text`] writes an ADS text in place at the end of a buffer. No call takes memory.
 //!
 //! Begin with specs/Texts.antt, the text of an envelope, then specs/Check.antt, the check as a division
 //! of polynomials, and specs/Faults.antt, the rules for the first bad place. The clauses of `unseal` in
@@ -15,20 +15,25 @@
 
 mod ads;
 mod afn;
+mod appending;
 mod check;
-mod digits;
-mod hexadecimal;
+mod decoding;
+mod encoding;
 mod names;
+mod pieces;
+mod places;
 mod reader;
 mod refusal;
+mod remainders;
 #[cfg(test)]
 mod tests;
 mod texts;
 mod writer;
 
+pub use appending::append_ads_text;
 pub use check::{check_code, division_leaves_the_remainder};
-pub use digits::octets_of_digits;
-pub use hexadecimal::write_digits;
+pub use decoding::octets_of_digits;
+pub use encoding::write_digits;
 pub use names::{Address, Flight, Registration};
 pub use reader::unseal;
 pub use refusal::{EnvelopeRefusal, EnvelopeWhy};

@@ -63,7 +63,8 @@ fn read_body(text: &[u8]) -> Result<Body, EnvelopeRefusal>
 
 /// The address in a text's head, or the head's first bad place.
 fn read_head(text: &[u8]) -> Result<Address, EnvelopeRefusal>
-    ensures value { IfOk result (λ a. IsAddress a × (take 9 text.now ≡ codes "/" ++ a ++ codes ".")) }
+    ensures value { IfOk result (λ a.
+        IsAddress a × (take 9 text.now ≡ codes "/" ++ a ++ codes ".")) }
     ensures fault { IfErr result (λ r. IsHeadFault text.now r) }
     ensures passed { OnOk result ((r : EnvelopeRefusal) → IsHeadFault text.now r → ⊥) }
 {

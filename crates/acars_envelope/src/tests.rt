@@ -70,6 +70,18 @@ fn right_texts(rt: HostRuntime) -> Result<(), Fail> {
 }
 
 #[test]
+fn text_at_the_end_of_a_buffer(rt: HostRuntime) -> Result<(), Fail> {
+    let address = Address::new(b"GRND001").ok_or("an address")?;
+    let registration = Registration::new(b"N12345").ok_or("a registration")?;
+    let mut out = Vec::with_capacity(rt.alloc(), 29)?;
+    out.extend_from_slice(b"D,")?;
+    assert_eq!(rt; out.capacity(), 29);
+    append_ads_text(&mut out, &address, &registration, b"\x07\x01");
+    assert_eq!(rt; out.as_slice(), b"D,/GRND001.ADS.N123450701BD4F".as_slice());
+    Ok(())
+}
+
+#[test]
 fn first_bad_places(rt: HostRuntime) {
     let rows = [
         // nothing at all

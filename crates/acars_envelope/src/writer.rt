@@ -6,8 +6,9 @@ ghost use Rattle.acars_envelope.specs.Check.{check_of};
 ghost use Rattle.acars_envelope.specs.Texts.{envelope_text, IsEnvelopeText};
 
 use crate::check::{START, with_octets};
-use crate::hexadecimal::{append, append_digits};
+use crate::encoding::{append_code, append_digits};
 use crate::names::Registration;
+use crate::pieces::append;
 use crate::texts::{Body, Envelope, Text};
 
 /// The text of an envelope: a slash, the address, a dot, the application's three letters, for ADS the
@@ -22,7 +23,7 @@ pub fn seal(envelope: &Envelope) -> Text
     append(&mut text, &envelope.address.seven());
     append(&mut text, b".");
     append_body(&mut text, &envelope.body);
-    append_digits(&mut text, &check_of_body(&envelope.body).to_be_bytes());
+    append_code(&mut text, check_of_body(&envelope.body));
     text
 }
 

@@ -1,4 +1,4 @@
-pub mod Outcomes
+pub mod Progress
 pub mod Running
 pub mod Seen
 pub mod Showing

@@ -2,6 +2,7 @@
 ghost use Rattle.std.specs.Prelude.{◌≡◌, map};
 ghost use Rattle.std.specs.String.{string_bytes};
 ghost use Rattle.adsc_bench.specs.Running.{Runs};
+ghost use Rattle.adsc_bench.specs.Seen.{seen};
 ghost use Rattle.adsc_bench.specs.Showing.{Shows};
 ghost use Rattle.adsc_bench.specs.Words.{AskForRun, AskForShow, IsListed};
 
@@ -29,9 +30,9 @@ pub fn top<S: Source, K: Sink>(
     ensures untouched { result ≡ Status.Words → (source.new ≡ source.old) × (sink.new ≡ sink.old) }
     // On `show`: what `show` promises.
     ensures shows { AskForShow (map string_bytes words.now) → Shows
-        (record { left = S.left source.old; read_faults = S.faults source.old; written = K.written sink.old; write_faults = K.faults sink.old })
-        (record { left = S.left source.new; read_faults = S.faults source.new; written = K.written sink.new; write_faults = K.faults sink.new })
-        (sink.new ≡ sink.old) result }
+        (seen (S.left source.old) (S.faults source.old) (K.written sink.old) (K.faults sink.old))
+        (seen (S.left source.new) (S.faults source.new) (K.written sink.new) (K.faults sink.new))
+        ((source.new ≡ source.old) × (sink.new ≡ sink.old)) result }
     // On `run 1`: what `run` promises.
     ensures runs { AskForRun (map string_bytes words.now) → Runs
         (record { left = S.left source.old; read_faults = S.faults source.old; written = K.written sink.old; write_faults = K.faults sink.old })

@@ -1,140 +1,145 @@
 //! The command `show`.
-ghost use Rattle.std.specs.Prelude.{◌≡◌, ◌↔◌, ◌+◌, ◌≤◌, ◌<◌, length, IsTrue, IfOk, IfSome, IfNone};
-ghost use Rattle.adsc_io.specs.Inputs.{first_lines, lines_before_limit};
-ghost use Rattle.adsc_io.specs.Limits.{max_script_bytes, max_script_lines};
-ghost use Rattle.adsc_io.specs.Lines.{script_lines};
-ghost use Rattle.shown_lines.specs.Meanings.{HasUnbuilt};
-ghost use Rattle.shown_lines.specs.Shown.{AreShown};
-ghost use Rattle.adsc_bench.specs.Outcomes.{IsOutcome, lines_shown, unbuilt_status, status_of_whole};
+ghost use Rattle.std.specs.Prelude.{◌≡◌, ℕ, ◌+◌, ◌<◌, ◌≤◌, List, Option, false, IfOk, IfSome, IfNone};
+ghost use Rattle.adsc_io.specs.Readers.{StandsIn};
+ghost use Rattle.adsc_io.specs.declared.limits.TheConstants.{MAX_SCRIPT_LINES};
+ghost use Rattle.shown_lines.specs.Shown.{refusals};
+ghost use Rattle.adsc_bench.specs.Progress.{HasReadAll, HasReadLine, HasShown, status_of_whole};
+ghost use Rattle.adsc_bench.specs.Seen.{Seen, seen};
 ghost use Rattle.adsc_bench.specs.Showing.{Shows};
 
 use crate::status::Status;
-use adsc_io::{
-    MAX_SCRIPT_BYTES, NoMemory, Sink, Source, WholeEnd, WriteFault, read_whole, whole_lines,
-    write_all,
-};
-use shown_lines::{ShownLines, append_end, show_lines};
+use adsc_io::{Line, LineReader, NoMemory, ReadFault, Sink, Source, WriteFault, write_all};
+use shown_lines::{LineShown, ShownText};
 use std::alloc::Global;
 
-/// Reads texts from the source, one a line, and writes to the sink what each says, or where it is wrong. This project's profile.
+/// Reads texts from the source, one a line, and writes to the sink what each says, or where it is wrong. This project's
+/// profile.
 ///
-/// The text of a line that begins with `U,` is an uplink's, and of one that begins with `D,` a downlink's. Right texts of the application AFN are not built
-/// yet: where such a line stands before the limit, nothing is written and the status is `NotBuilt`. A line that is refused is shown with the code and the
-/// place, and counted. What each status promises is stated by the clause; want of memory alone is free.
+/// The text of a line that begins with `U,` is an uplink's, and of one that begins with `D,` a downlink's. A line that is
+/// refused is shown with the code and the place, and counted. Each line is shown before the next one is read. Right texts
+/// of the application AFN are not built yet: the first such line ends it with `NotBuilt`. All memory is taken before the
+/// first read. What each status promises is stated by the clause; want of memory alone is free.
 pub fn show<S: Source, K: Sink>(alloc: Global, source: &mut S, sink: &mut K) -> Status
     ensures { Shows
-        (record { left = S.left source.old; read_faults = S.faults source.old; written = K.written sink.old; write_faults = K.faults sink.old })
-        (record { left = S.left source.new; read_faults = S.faults source.new; written = K.written sink.new; write_faults = K.faults sink.new })
-        (sink.new ≡ sink.old) result }
+        (seen (S.left source.old) (S.faults source.old) (K.written sink.old) (K.faults sink.old))
+        (seen (S.left source.new) (S.faults source.new) (K.written sink.new) (K.faults sink.new))
+        ((source.new ≡ source.old) × (sink.new ≡ sink.old)) result }
 {
-    let whole = match read_whole(alloc, source) {
-        Ok(whole) => whole,
+    let mut showing = match Showing::new(alloc) {
+        Ok(showing) => showing,
         Err(NoMemory) => return Status::NoMemory,
     };
-    let output = match output_for(alloc, whole.end, whole.bytes.bytes()) {
-        Ok(Some(output)) => output,
-        Ok(None) => return status_of_unbuilt(whole.end),
-        Err(NoMemory) => return Status::NoMemory,
-    };
-    match write_all(sink, output.text.as_slice()) {
-        Ok(()) => output.status,
-        Err(WriteFault) => Status::WriteFault,
+    loop {
+        if let Some(status) = showing.show_next(source, sink) {
+            return status;
+        }
     }
 }
 
-/// What is to be written for an input, and the status once it is.
+/// The lines that are read, the text of the one that is shown, and how many of them are refused.
 #[derive(Drop)]
-struct Output {
-    text: Vec<u8>,
-    status: Status,
+struct Showing {
+    reader: LineReader,
+    text: ShownText,
+    refused: u32,
 }
 
-/// What is to be written for these bytes, whose reading ended so, or None exactly where one of their lines is a text of the application
-/// AFN, which is not built yet.
-fn output_for(alloc: Global, end: WholeEnd, bytes: &[u8]) -> Result<Option<Output>, NoMemory>
-    requires within { length bytes.now ≤ max_script_bytes + 1 }
-    requires over { (end ≡ WholeEnd.Over) ↔ (length bytes.now ≡ max_script_bytes + 1) }
-    ensures some { IfOk result (λ found. IfSome found (λ output. IsOutcome end bytes.now output.status output.text.items)) }
-    ensures none { IfOk result (λ found. IfNone found (HasUnbuilt (lines_shown end bytes.now))) }
-{
-    let part = part_shown(end, bytes);
-    match show_lines(alloc, part)? {
-        Some(shown) => Ok(Some(output_of(end, bytes, shown)?)),
-        None => Ok(None),
+impl Showing {
+    /// No line yet.
+    fn new(alloc: Global) -> Result<Showing, NoMemory>
+        ensures stands { IfOk result
+            (λ showing. (bytes : List ℕ) → StandsIn bytes bytes showing.reader) }
+        ensures fresh { IfOk result (λ showing. (showing.reader.number ≡ 0)
+            × (showing.reader.ended ≡ false) × (showing.refused ≡ 0)) }
+    {
+        Ok(Showing {
+            reader: LineReader::new(alloc)?,
+            text: ShownText::new(alloc)?,
+            refused: 0,
+        })
+    }
+
+    /// Reads the next line and writes what shows it, or answers how showing ends.
+    fn show_next<S: Source, K: Sink>(&mut self, source: &mut S, sink: &mut K) -> Option<Status>
+        requires { self.old.refused ≤ self.old.reader.number }
+        ensures none { IfNone result ((before : Seen) → HasShown before
+            (seen (S.left source.old) (S.faults source.old) (K.written sink.old) (K.faults sink.old))
+            self.old.reader self.old.reader.number self.old.refused → HasShown before
+            (seen (S.left source.new) (S.faults source.new) (K.written sink.new) (K.faults sink.new))
+            self.new.reader self.new.reader.number self.new.refused) }
+        ensures some { IfSome result (λ status. (before : Seen) → HasShown before
+            (seen (S.left source.old) (S.faults source.old) (K.written sink.old) (K.faults sink.old))
+            self.old.reader self.old.reader.number self.old.refused → Shows before
+            (seen (S.left source.new) (S.faults source.new) (K.written sink.new) (K.faults sink.new))
+            ⊥ status) }
+        ensures number { IfNone result (self.new.reader.number ≡ self.old.reader.number + 1) }
+        ensures counted { IfNone result (self.new.refused ≤ self.new.reader.number) }
+    {
+        match self.reader.next(source) {
+            Ok(Line::Text) => {
+                let way = self
+                    .text
+                    .show_line(self.reader.number(), self.reader.text());
+                self.write_line(way, sink)
+            }
+            Ok(Line::TooLong) => {
+                let way = self.text.show_long(self.reader.number());
+                self.write_line(way, sink)
+            }
+            Ok(Line::End) => Some(self.write_end(sink)),
+            Ok(Line::Limit { .. }) => Some(Status::Limit),
+            Err(ReadFault) => Some(Status::ReadFault),
+        }
+    }
+
+    /// Writes the text of the line that was read last and is shown in this way, or answers how showing ends.
+    fn write_line<K: Sink>(&mut self, way: LineShown, sink: &mut K) -> Option<Status>
+        requires { self.old.refused < MAX_SCRIPT_LINES }
+        ensures none { IfNone result ((before : Seen) (left : Option (List ℕ)) (reads : ℕ) → HasReadLine
+            before (seen left reads (K.written sink.old) (K.faults sink.old))
+            self.old.reader self.old.refused self.old.text way → HasShown
+            before (seen left reads (K.written sink.new) (K.faults sink.new))
+            self.new.reader self.new.reader.number self.new.refused) }
+        ensures some { IfSome result (λ status. (before : Seen) (left : Option (List ℕ)) (reads : ℕ) → HasReadLine
+            before (seen left reads (K.written sink.old) (K.faults sink.old))
+            self.old.reader self.old.refused self.old.text way → Shows
+            before (seen left reads (K.written sink.new) (K.faults sink.new)) ⊥ status) }
+        ensures reader { self.new.reader ≡ self.old.reader }
+        ensures counted { self.new.refused ≤ self.old.refused + 1 }
+    {
+        if way == LineShown::NotBuilt {
+            return Some(Status::NotBuilt);
+        }
+        self.refused += refusals_in(way);
+        match write_all(sink, self.text.bytes()) {
+            Ok(()) => None,
+            Err(WriteFault) => Some(Status::WriteFault),
+        }
+    }
+
+    /// Writes the line that ends the shown text, and answers how showing ends.
+    fn write_end<K: Sink>(&mut self, sink: &mut K) -> Status
+        ensures { (before : Seen) (left : Option (List ℕ)) (reads : ℕ) → HasReadAll
+            before (seen left reads (K.written sink.old) (K.faults sink.old))
+            self.old.reader.number self.old.refused → Shows
+            before (seen left reads (K.written sink.new) (K.faults sink.new)) ⊥ result }
+    {
+        self.text.show_end(self.reader.number(), self.refused);
+        match write_all(sink, self.text.bytes()) {
+            Ok(()) => status_at_end(self.refused),
+            Err(WriteFault) => Status::WriteFault,
+        }
     }
 }
 
-/// The part of the bytes whose lines are shown: where not all was read, only lines that a newline ends.
-fn part_shown(end: WholeEnd, bytes: &[u8]) -> &[u8]
-    requires within { length bytes.now ≤ max_script_bytes + 1 }
-    requires over { (end ≡ WholeEnd.Over) ↔ (length bytes.now ≡ max_script_bytes + 1) }
-    ensures lines { first_lines (script_lines result.now) ≡ lines_shown end bytes.now }
-    ensures all { end ≡ WholeEnd.End → result.now ≡ bytes.now }
+/// How many lines are refused that are shown so.
+fn refusals_in(way: LineShown) -> u32
+    ensures { result ≡ refusals way }
 {
-    match end {
-        WholeEnd::End => bytes,
-        WholeEnd::Fault => whole_lines(bytes),
-        WholeEnd::Over => whole_lines(&bytes[..MAX_SCRIPT_BYTES]),
+    match way {
+        LineShown::Refused => 1,
+        LineShown::Right | LineShown::NotBuilt => 0,
     }
-}
-
-/// The status where some line is not built: a fault of the source goes first.
-fn status_of_unbuilt(end: WholeEnd) -> Status
-    ensures { result ≡ unbuilt_status end }
-{
-    match end {
-        WholeEnd::Fault => Status::ReadFault,
-        WholeEnd::End | WholeEnd::Over => Status::NotBuilt,
-    }
-}
-
-/// What is to be written for bytes whose lines were shown, and the status once it is.
-fn output_of(end: WholeEnd, bytes: &[u8], shown: ShownLines) -> Result<Output, NoMemory>
-    requires within { length bytes.now ≤ max_script_bytes + 1 }
-    requires over { (end ≡ WholeEnd.Over) ↔ (length bytes.now ≡ max_script_bytes + 1) }
-    requires shown { AreShown (lines_shown end bytes.now) shown.text.items shown.refused }
-    requires lines { end ≡ WholeEnd.End → shown.lines ≡ length (first_lines (script_lines bytes.now)) }
-    requires more { end ≡ WholeEnd.End → IsTrue shown.more ↔ (max_script_lines < length (script_lines bytes.now)) }
-    ensures { IfOk result (λ output. IsOutcome end bytes.now output.status output.text.items) }
-{
-    match end {
-        WholeEnd::End => output_at_end(bytes, shown),
-        WholeEnd::Fault => Ok(Output {
-            text: shown.text,
-            status: Status::ReadFault,
-        }),
-        WholeEnd::Over => Ok(Output {
-            text: shown.text,
-            status: Status::Limit,
-        }),
-    }
-}
-
-/// What is to be written for bytes that are all of the input, and the status once it is.
-fn output_at_end(bytes: &[u8], shown: ShownLines) -> Result<Output, NoMemory>
-    requires size { length bytes.now ≤ max_script_bytes }
-    requires shown { AreShown (lines_before_limit bytes.now) shown.text.items shown.refused }
-    requires lines { shown.lines ≡ length (first_lines (script_lines bytes.now)) }
-    requires more { IsTrue shown.more ↔ (max_script_lines < length (script_lines bytes.now)) }
-    ensures { IfOk result (λ output. IsOutcome WholeEnd.End bytes.now output.status output.text.items) }
-{
-    let ShownLines {
-        mut text,
-        lines,
-        refused,
-        more,
-    } = shown;
-    if more {
-        return Ok(Output {
-            text,
-            status: Status::Limit,
-        });
-    }
-    append_end(&mut text, lines, refused)?;
-    Ok(Output {
-        text,
-        status: status_at_end(refused),
-    })
 }
 
 /// The status where the whole shown text was written.

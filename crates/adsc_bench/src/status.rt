@@ -11,19 +11,19 @@ pub enum Status {
     Refused = 1,
     /// The words of the command line have no listed form. Nothing was read or written.
     Words = 2,
-    /// The input could not be read. `run` wrote nothing, and `show` the shown text of the lines that were wholly read, where all of
-    /// them are of forms that are built.
+    /// The input could not be read. `run` wrote nothing, and `show` the shown text of the lines that were wholly read.
     ReadFault = 3,
     /// The output could not be written. A beginning of it was.
     WriteFault = 4,
     /// A line of the script is bad. All lines before it were carried out, and what was written says which line it is and why.
     BadLine = 5,
-    /// There was not enough memory. Nothing was written.
+    /// There was not enough memory. Nothing was written, and `show` read nothing.
     NoMemory = 6,
     /// The limit of lines or bytes was met before any bad line. `run` carried out the lines before and wrote which line is over
     /// it; `show` wrote the shown text of the lines before.
     Limit = 7,
-    /// The input has a right line whose form is not built yet. Nothing was written.
+    /// The input has a right line whose form is not built yet. `run` wrote nothing, and `show` the shown text of the lines
+    /// before it.
     NotBuilt = 8,
 }
 

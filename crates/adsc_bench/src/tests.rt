@@ -104,21 +104,6 @@ fn scripts_are_run(rt: HostRuntime) -> Result<(), Fail> {
 }
 
 #[test]
-fn the_limit_ends_a_run(rt: HostRuntime) -> Result<(), Fail> {
-    let alloc = rt.alloc();
-    let mut script = HEAD.as_bytes().to_vec(alloc)?;
-    script.extend_from_slice(b"U,/AKLCDYA.ADS.N123450701BD4F\n")?;
-    for _ in 0..199_996 {
-        script.extend_from_slice(b"U,x\n")?;
-    }
-    script.extend_from_slice(b"T,-1")?;
-    let (status, written) = run_of(alloc, script.as_slice())?;
-    assert_eq!(rt; status, Status::Limit);
-    assert_eq!(rt; written.as_slice(), b"J,4\nLIMIT,200001\n".as_slice());
-    Ok(())
-}
-
-#[test]
 fn other_words_read_and_write_nothing(rt: HostRuntime) -> Result<(), Fail> {
     let alloc = rt.alloc();
     let table: [&[&str]; 6] = [
@@ -191,9 +176,9 @@ fn texts_are_shown(rt: HostRuntime) -> Result<(), Fail> {
         ),
         ("", Status::Done, "end,0,0\n"),
         (
-            "hello\nU,/AKLCDYA.AFN/FMHANZ1,.N12345/FAK0/FARADS,05087\n",
+            "hello\nU,/AKLCDYA.AFN/FMHANZ1,.N12345/FAK0/FARADS,05087\nhello\n",
             Status::NotBuilt,
-            "",
+            "line,1,refused,FORM,0\n",
         ),
         (
             "D,/GRND001.AFN/FMHANZ1,.N12345/FAK0/FARADS,05087\n",
@@ -202,81 +187,16 @@ fn texts_are_shown(rt: HostRuntime) -> Result<(), Fail> {
         ),
     ];
     for (lines, status, output) in table {
-        let mut source = MemSource::new(alloc, lines.as_bytes(), 7, &[])?;
-        let mut sink = MemSink::new(alloc, 1_000, 5, &[])?;
-        assert_eq!(rt;
-            top(alloc, words.as_slice(), &mut source, &mut sink),
-            status,
-            "at {lines}"
-        );
-        assert_eq!(rt; sink.written(), output.as_bytes(), "at {lines}");
-    }
-    Ok(())
-}
-
-#[test]
-fn faults_end_a_showing(rt: HostRuntime) -> Result<(), Fail> {
-    let alloc = rt.alloc();
-    let table: [(&str, usize, &str); 4] = [
-        (
-            "ab\ncd\nef",
-            7,
-            "line,1,refused,FORM,0\nline,2,refused,FORM,0\n",
-        ),
-        (
-            "U,\ncd\nef",
-            7,
-            "line,1,refused,SHORT,0\nline,2,refused,FORM,0\n",
-        ),
-        (
-            "cd\nU,/AKLCDYA.AFN/FMHANZ1,.N12345/FAK0/FARADS,05087\nef",
-            54,
-            "",
-        ),
-        ("abcdefgh", 7, ""),
-    ];
-    for (lines, piece, output) in table {
-        let mut source = MemSource::new(alloc, lines.as_bytes(), piece, &[2])?;
-        let mut sink = MemSink::new(alloc, 100, 100, &[])?;
-        assert_eq!(rt;
-            show(alloc, &mut source, &mut sink),
-            Status::ReadFault,
-            "at {lines}"
-        );
-        assert_eq!(rt; source.faults(), 1);
-        assert_eq!(rt; sink.written(), output.as_bytes(), "at {lines}");
-    }
-
-    let mut source = MemSource::new(alloc, b"ab\n", 100, &[])?;
-    let mut sink = MemSink::new(alloc, 100, 4, &[2])?;
-    assert_eq!(rt; show(alloc, &mut source, &mut sink), Status::WriteFault);
-    assert_eq!(rt; sink.faults(), 1);
-    assert_eq!(rt; sink.written(), b"line".as_slice());
-    Ok(())
-}
-
-#[test]
-fn the_limit_ends_a_showing(rt: HostRuntime) -> Result<(), Fail> {
-    let alloc = rt.alloc();
-    let mut lines = Vec::new(alloc);
-    for _ in 0..200_000 {
-        lines.extend_from_slice(b"x\n")?;
-    }
-    let table: [(&[u8], Status, &[u8]); 2] = [
-        (b"", Status::Refused, b"end,200000,200000\n"),
-        (
-            b"U,/AKLCDYA.AFN/FMHANZ1,.N12345/FAK0/FARADS,05087",
-            Status::Limit,
-            b"line,200000,refused,FORM,0\n",
-        ),
-    ];
-    for (more, status, last) in table {
-        let mut input = lines.clone()?;
-        input.extend_from_slice(more)?;
-        let mut source = MemSource::new(alloc, input.as_slice(), 8_192, &[])?;
-        let mut sink = MemSink::new(alloc, 6_000_000, 6_000_000, &[])?;
-        assert_eq!(rt; show(alloc, &mut source, &mut sink), status);
-        assert!(rt; sink.written().ends_with(last));
+        for piece in [1, 2, 4_096] {
+            let mut source = MemSource::new(alloc, lines.as_bytes(), piece, &[])?;
+            let mut sink = MemSink::new(alloc, 1_000, 5, &[])?;
+            assert_eq!(rt;
+                top(alloc, words.as_slice(), &mut source, &mut sink),
+                status,
+                "at {lines}"
+            );
+            assert_eq!(rt; sink.written(), output.as_bytes(), "at {lines}");
+        }
     }
     Ok(())
 }

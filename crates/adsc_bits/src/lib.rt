@@ -1,8 +1,11 @@
-//! Writing and reading fields of bits, the most significant first, as the messages of ADS-C are laid out (RTCA DO-258A / EUROCAE ED-100A).
+//! Writing and reading fields of bits, the most significant first, as the messages of ADS-C are
+//! laid out (RTCA DO-258A / EUROCAE ED-100A).
 //!
-//! A `BitWriter` gathers fields and gives whole octets; a `BitReader` takes fields from octets, and says at which bit a field is cut short.
-//! The crates of report groups, downlinks and requests stand above it, and write and read their fields with these two types.
-//! Begin with `writer` and `reader`; what a list of bits is, and reading as a function, is defined in the crate `bit_terms`.
+//! A `BitWriter` gathers fields and gives whole octets; a `BitReader` takes fields from octets, and
+//! says at which bit a field is cut short. The crates of report groups, downlinks and requests
+//! stand above it, and write and read their fields with these two types. Begin with `writer` and
+//! `reader`; what a list of bits is, and reading as a function, is defined in the crate
+//! `bit_terms`.
 #![tactic(auto)]
 
 mod reader;

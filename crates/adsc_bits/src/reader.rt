@@ -1,10 +1,8 @@
 //! The reader of fields of bits.
 
-ghost use Rattle.std.specs.Prelude.{◌≡◌, ℕ, ◌+◌, ◌^◌, ◌<◌, ◌≤◌, ◌↔◌, ◌++◌, ◌==◌, List, Bool, ℤ, length, Ok, IfOk, IfErr, OnOk, OnErr, IsErr};
-ghost use Rattle.bit_terms.specs.Bits.{unsigned_bits};
-ghost use Rattle.bit_terms.specs.Octets.{octets_bits};
-ghost use Rattle.bit_terms.specs.Signed.{signed_bits, signed_of, FitsSigned};
-ghost use Rattle.bit_terms.specs.Reading.{all_unread, taken, taken_signed, Gives};
+ghost use Rattle.std.specs.Prelude.{◌≡◌, ◌+◌, ◌^◌, ◌<◌, ◌≤◌, ◌↔◌, ◌==◌, length, IfOk, IfErr, OnErr, IsErr};
+ghost use Rattle.bit_terms.specs.Signed.{signed_of};
+ghost use Rattle.bit_terms.specs.Reading.{all_unread, Takes, TakesSigned, taken, taken_signed, Gives};
 
 use crate::shifts::{high_part, joined, low_part};
 use std::marker::Model;
@@ -16,7 +14,8 @@ pub struct Short {
     pub bit: u32,
 }
 
-/// What is left to read of some octets. Contracts see the bits that are left, and the place of the first of them.
+/// What is left to read of some octets. Contracts see the bits that are left, and the place of the
+/// first of them.
 ///
 /// Source: the bit order of RTCA DO-258A / EUROCAE ED-100A.
 #[derive(Drop)]
@@ -37,9 +36,13 @@ impl<'a> Model for BitReader<'a> {
 
     ghost Value = { Unread };
 
-    ghost view = { λ r. record { left = unsigned_bits r.pending r.partial ++ octets_bits r.rest.now; at = r.place } };
+    ghost view = { λ r. record {
+      left = unsigned_bits r.pending r.partial ++ octets_bits r.rest.now;
+      at = r.place;
+    } };
 
-    ghost invariant = { λ r. (r.pending < 8) × (r.partial < 2 ^ r.pending) × (r.place + r.pending + 8 * length r.rest.now ≤ 524280) };
+    ghost invariant = { λ r. (r.pending < 8) × (r.partial < 2 ^ r.pending)
+        × (r.place + r.pending + 8 * length r.rest.now ≤ 524280) };
 }
 
 impl<'a> BitReader<'a> {
@@ -87,19 +90,18 @@ impl<'a> BitReader<'a> {
     ///
     /// # Errors
     ///
-    /// `Short` exactly where fewer than `width` bits are left; its bit is the place where the field begins, and the reader does not move.
+    /// `Short` exactly where fewer than `width` bits are left; its bit is the place where the field
+    /// begins, and the reader does not move.
     pub fn take(&mut self, width: u8) -> Result<u32, Short>
         requires { (1 ≤ width) × (width ≤ 32) }
-        // What the field's bits spell is taken, and what was written is taken again.
-        ensures gives { Gives (λ v. v) (λ e. e.bit) result self.new (taken width self.old) }
-        ensures bits { IfOk result (λ v. self.old.left ≡ unsigned_bits width v ++ self.new.left) }
-        ensures value { IfOk result (λ v. v < 2 ^ width) }
-        ensures moved { OnOk result (self.new.at ≡ self.old.at + width) }
-        ensures back { (v : ℕ) (rest : List Bool) → v < 2 ^ width → self.old.left ≡ unsigned_bits width v ++ rest → (result ≡ Ok v) × (self.new.left ≡ rest) }
-
+        // The number whose bits stand next is taken.
+        ensures found { IfOk result (λ v. Takes width v self.old self.new) }
+        // It is refused exactly where too few bits are left, at the field's first bit.
         ensures short { IsErr result ↔ (length self.old.left < width) }
-        ensures begins { IfErr result (λ e. e.bit ≡ self.old.at) }
-        ensures unmoved { OnErr result (self.new ≡ self.old) }
+        ensures unmoved { IfErr result (λ e. (e.bit ≡ self.old.at) × (self.new ≡ self.old)) }
+        // This one joins the crates: all of it as a function of what is left, by which decoders
+        // above are proved.
+        ensures gives { Gives (λ v. v) (λ e. e.bit) result self.new (taken width self.old) }
     {
         self.field(width)
     }
@@ -108,24 +110,24 @@ impl<'a> BitReader<'a> {
     ///
     /// # Errors
     ///
-    /// `Short` exactly where fewer than `width` bits are left; its bit is the place where the field begins, and the reader does not move.
+    /// `Short` exactly where fewer than `width` bits are left; its bit is the place where the field
+    /// begins, and the reader does not move.
     pub fn take_signed(&mut self, width: u8) -> Result<i32, Short>
         requires { (1 ≤ width) × (width ≤ 32) }
-        // What the field's bits spell is taken, and what was written is taken again.
-        ensures gives { Gives (λ v. v) (λ e. e.bit) result self.new (taken_signed width self.old) }
-        ensures bits { IfOk result (λ v. self.old.left ≡ signed_bits width v ++ self.new.left) }
-        ensures value { IfOk result (FitsSigned width) }
-        ensures moved { OnOk result (self.new.at ≡ self.old.at + width) }
-        ensures back { (v : ℤ) (rest : List Bool) → FitsSigned width v → self.old.left ≡ signed_bits width v ++ rest → (result ≡ Ok v) × (self.new.left ≡ rest) }
-
+        // The number whose bits stand next is taken.
+        ensures found { IfOk result (λ v. TakesSigned width v self.old self.new) }
+        // It is refused exactly where too few bits are left, at the field's first bit.
         ensures short { IsErr result ↔ (length self.old.left < width) }
-        ensures begins { IfErr result (λ e. e.bit ≡ self.old.at) }
-        ensures unmoved { OnErr result (self.new ≡ self.old) }
+        ensures unmoved { IfErr result (λ e. (e.bit ≡ self.old.at) × (self.new ≡ self.old)) }
+        // This one joins the crates: all of it as a function of what is left, by which decoders
+        // above are proved.
+        ensures gives { Gives (λ v. v) (λ e. e.bit) result self.new (taken_signed width self.old) }
     {
         self.signed_field(width)
     }
 
-    // Gathers whole octets until there are enough bits, and leaves what the field doesn't need pending.
+    // Gathers whole octets until there are enough bits, and leaves what the field doesn't need
+    // pending.
     fn field(&mut self, width: u8) -> Result<u32, Short>
         requires { (1 ≤ width) × (width ≤ 32) }
         ensures gives { Gives (λ v. v) (λ e. e.bit) result self.new (taken width self.old) }

@@ -11,7 +11,8 @@ use crate::shifts::{high_part, joined, low_part};
 use arrayvec::ArrayVec;
 use std::marker::Model;
 
-/// The bits written so far, at most 2,040: the 255 octets of the longest payload. Contracts see the list of the bits.
+/// The bits written so far, at most 2,040: the 255 octets of the longest payload. Contracts see the
+/// list of the bits.
 ///
 /// Source: the bit order of RTCA DO-258A / EUROCAE ED-100A; the limit is this project's profile.
 #[derive(Drop)]
@@ -32,7 +33,8 @@ impl Model for BitWriter {
 
     ghost view = { λ w. octets_bits w.octets.items ++ unsigned_bits w.filled w.partial };
 
-    ghost invariant = { λ w. (w.filled < 8) × (w.partial < 2 ^ w.filled) × (8 * array_vec_len w.octets + w.filled ≤ 2040) };
+    ghost invariant = { λ w. (w.filled < 8) × (w.partial < 2 ^ w.filled)
+        × (8 * array_vec_len w.octets + w.filled ≤ 2040) };
 }
 
 impl BitWriter {
@@ -55,7 +57,8 @@ impl BitWriter {
         8 * self.octets.len() as u32 + self.filled as u32
     }
 
-    /// Writes `value` as a field of `width` bits, 1 to 32. The value is below two to the width, and there is room for the field.
+    /// Writes `value` as a field of `width` bits, 1 to 32. The value is below two to the width, and
+    /// there is room for the field.
     pub fn put(&mut self, value: u32, width: u8)
         requires width { (1 ≤ width) × (width ≤ 32) }
         requires fits { value < 2 ^ width }
@@ -74,7 +77,8 @@ impl BitWriter {
         self.filled = count;
     }
 
-    /// Writes `value` as a signed field of `width` bits, 1 to 32, in two's complement. The value fits the field, and there is room for it.
+    /// Writes `value` as a signed field of `width` bits, 1 to 32, in two's complement. The value
+    /// fits the field, and there is room for it.
     pub fn put_signed(&mut self, value: i32, width: u8)
         requires width { (1 ≤ width) × (width ≤ 32) }
         requires fits { FitsSigned width value }

@@ -3,25 +3,25 @@ use Rattle.std.proofs.Common.{◌≡◌, ℕ, zero, suc, ◌+◌, ◌-◌, ◌<�
 use Rattle.std.proofs.lemmas.Bool.{cases_Bool, cases_lt, or_left, or_right}
 use Rattle.std.proofs.lemmas.List.{take_at}
 use Rattle.bit_terms.specs.Bits.{unsigned_bits}
-use Rattle.bit_terms.specs.Octets.{number_of}
+use Rattle.bit_terms.specs.Octets.{number_spelled}
 use Rattle.bit_terms.specs.Reading.{Unread, ◌>>=◌}
 use Rattle.bit_terms.proofs.BitsLaws.{length-unsigned_bits}
-use Rattle.bit_terms.proofs.OctetsLaws.{number_of-unsigned_bits}
-use Rattle.bit_terms.proofs.ReadingLaws.{bind_err, ok_is_no_err}
+use Rattle.bit_terms.proofs.OctetsLaws.{number_spelled-unsigned_bits}
+use Rattle.bit_terms.proofs.ReadingLaws.{bind_err, ok_is_no_err, err_same}
 use Rattle.adsc_groups.specs.Groups.{is_group_tag}
-use Rattle.adsc_groups.proofs.FieldsRead.{err_same}
 use Rattle.adsc_downlink.specs.Codes.{is_octet_tag, is_report_tag, is_item_tag}
 use Rattle.adsc_downlink.specs.Items.{ItemData}
 use Rattle.adsc_downlink.specs.Encodings.{EncodesEach, EncodesItem}
 use Rattle.adsc_downlink.specs.Faults.{IsItemFault, is_report, ends_in_report, IsTagFault, IsFirstDownlinkFault}
-use Rattle.adsc_downlink.specs.Reading.{short_at, tag_at, many_at, begins, item_at, ninth_at, items_at, downlink_at, with_items}
+use Rattle.adsc_downlink.specs.Reading.{begins, item_at, ninth_at, items_at, downlink_at}
+use Rattle.adsc_downlink.specs.Refusals.{short_at, tag_at, many_at}
 use Rattle.adsc_downlink.specs.declared.refusal.DownRefusal.{DownRefusal}
 use Rattle.adsc_downlink.specs.declared.refusal.DownWhy.{DownWhy}
 use Rattle.adsc_downlink.proofs.GroupReading.{begins_octet, begins_short, octet_there}
 use Rattle.adsc_downlink.proofs.ItemReading.{TakesItem, item_takes}
 use Rattle.adsc_downlink.proofs.ItemFaults.{item_refused, item_fault, item_short, unknown_refused}
 use Rattle.adsc_downlink.proofs.DownlinkReading.{something_left, left_something, item_is_no_group, downlink_through}
-use Rattle.adsc_downlink.proofs.Stepping.{items_end, items_full, items_next, first_refused}
+use Rattle.adsc_downlink.proofs.Stepping.{with_items, items_end, items_full, items_next, first_refused}
 
 -- ---- lists that grow at their end
 
@@ -104,7 +104,7 @@ refused_item bits done front old refusal was room due given =
 ninth_short : (old : Unread) → length old.left < 8 → ninth_at old ≡ short_at old.at
 ninth_short old few = rw (lt-ltb (length old.left) 8 few) refl
 
-ninth_whole : (old : Unread) → 8 ≤ length old.left → ninth_at old ≡ (if is_item_tag (number_of (take 8 old.left)) then many_at old.at else tag_at old.at)
+ninth_whole : (old : Unread) → 8 ≤ length old.left → ninth_at old ≡ (if is_item_tag (number_spelled (take 8 old.left)) then many_at old.at else tag_at old.at)
 ninth_whole old enough = rw (le-ltb (length old.left) 8 enough) refl
 
 refused_ninth : (bits : List Bool) (done : List ItemData) (front : List Bool) (old : Unread) (refusal : DownRefusal) → WasRead bits done front old → length done ≡ 8
@@ -116,28 +116,28 @@ refused_ninth bits done front old refusal was full some given = ⊎_elim short w
         let same : refusal ≡ short_at old.at = sym given ∙ ninth_short old few in
         tag_fault bits done front old refusal was (omega arith) (ap (λ r. r.bit) same) (inl (ap (λ r. r.why) same, few, inr some))
 
-    an_item : 8 ≤ length old.left → is_item_tag (number_of (take 8 old.left)) ≡ true → IsFirstDownlinkFault bits refusal.bit refusal.why
+    an_item : 8 ≤ length old.left → is_item_tag (number_spelled (take 8 old.left)) ≡ true → IsFirstDownlinkFault bits refusal.bit refusal.why
     an_item enough known =
         let took = octet_there old enough in
         let same : refusal ≡ many_at old.at = sym given ∙ ninth_whole old enough ∙ ap (λ test. if test then many_at old.at else tag_at old.at) known in
         tag_fault bits done front old refusal was (omega arith) (ap (λ r. r.bit) same)
-        (inr (number_of (take 8 old.left), drop 8 old.left, took.fits, took.bits, inr (ap (λ r. r.why) same, known, full)))
+        (inr (number_spelled (take 8 old.left), drop 8 old.left, took.fits, took.bits, inr (ap (λ r. r.why) same, known, full)))
 
-    no_item : 8 ≤ length old.left → is_item_tag (number_of (take 8 old.left)) ≡ false → IsFirstDownlinkFault bits refusal.bit refusal.why
+    no_item : 8 ≤ length old.left → is_item_tag (number_spelled (take 8 old.left)) ≡ false → IsFirstDownlinkFault bits refusal.bit refusal.why
     no_item enough unknown =
         let took = octet_there old enough in
         let same : refusal ≡ tag_at old.at = sym given ∙ ninth_whole old enough ∙ ap (λ test. if test then many_at old.at else tag_at old.at) unknown in
         tag_fault bits done front old refusal was (omega arith) (ap (λ r. r.bit) same)
         (inr (
-          number_of (take 8 old.left),
+          number_spelled (take 8 old.left),
           drop 8 old.left,
           took.fits,
           took.bits,
-          inl (ap (λ r. r.why) same, unknown, no_group_here bits done front old (number_of (take 8 old.left)) (drop 8 old.left) was took.fits took.bits),
+          inl (ap (λ r. r.why) same, unknown, no_group_here bits done front old (number_spelled (take 8 old.left)) (drop 8 old.left) was took.fits took.bits),
         ))
 
     whole : 8 ≤ length old.left → IsFirstDownlinkFault bits refusal.bit refusal.why
-    whole enough = ⊎_elim (an_item enough) (no_item enough) (cases_Bool (is_item_tag (number_of (take 8 old.left))))
+    whole enough = ⊎_elim (an_item enough) (no_item enough) (cases_Bool (is_item_tag (number_spelled (take 8 old.left))))
 
 refused_items : (room : ℕ) (bits : List Bool) (done : List ItemData) (front : List Bool) (old : Unread) (refusal : DownRefusal) → WasRead bits done front old
     → length done + room ≡ 8 → items_at room old ≡ Err refusal → IsFirstDownlinkFault bits refusal.bit refusal.why
@@ -243,8 +243,8 @@ fault_ninth items old bit cause full fault =
     ⊎_elim
     (λ p. ⊎_elim (λ q. ninth_short old q.1 ∙ ap₂ (λ b w. record { bit = b; why = w }) (sym p.0) (sym q.0))
     (λ q.
-    let number : number_of (take 8 old.left) ≡ q.0 =
-    ap (λ left. number_of (take 8 left)) q.3 ∙ ap number_of (take_at (unsigned_bits 8 q.0) q.1 8 (length-unsigned_bits 8 q.0)) ∙ number_of-unsigned_bits 8 q.0 q.2 in
+    let number : number_spelled (take 8 old.left) ≡ q.0 =
+    ap (λ left. number_spelled (take 8 left)) q.3 ∙ ap number_spelled (take_at (unsigned_bits 8 q.0) q.1 8 (length-unsigned_bits 8 q.0)) ∙ number_spelled-unsigned_bits 8 q.0 q.2 in
     ninth_whole old (whole_tag q.0 q.1 old q.3)
     ∙ ap (λ n. if is_item_tag n then many_at old.at else tag_at old.at) number
     ∙ ⊎_elim

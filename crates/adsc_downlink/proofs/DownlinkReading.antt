@@ -8,16 +8,17 @@ use Rattle.bit_terms.specs.Reading.{Unread, ◌>>=◌}
 use Rattle.bit_terms.proofs.BitsLaws.{length-unsigned_bits}
 use Rattle.bit_terms.proofs.ReadingLaws.{bind_ok, ok_same, ok_is_no_err}
 use Rattle.adsc_groups.specs.Groups.{is_group_tag}
-use Rattle.adsc_downlink.specs.Codes.{has_place, is_octet_tag, is_report_tag, is_item_tag}
+use Rattle.contract_rules.specs.Reasons.{names_octet}
+use Rattle.adsc_downlink.specs.Codes.{is_octet_tag, is_report_tag, is_item_tag}
 use Rattle.adsc_downlink.specs.Items.{ItemData, item_bits}
 use Rattle.adsc_downlink.specs.Items.ItemData.{ack, nack, noncompliance, emergency_off, report}
 use Rattle.adsc_downlink.specs.Encodings.{EncodesEach, EncodesItem, EncodesDownlink}
 use Rattle.adsc_downlink.specs.Faults.{is_report, ends_in_report}
-use Rattle.adsc_downlink.specs.Reading.{begins, item_at, ninth_at, items_at, downlink_at, with_items}
+use Rattle.adsc_downlink.specs.Reading.{begins, item_at, ninth_at, items_at, downlink_at}
 use Rattle.adsc_downlink.specs.declared.refusal.DownRefusal.{DownRefusal}
 use Rattle.adsc_downlink.proofs.GroupReading.{begins_octet}
 use Rattle.adsc_downlink.proofs.ItemReading.{item_takes, item_again, report_tag_octet}
-use Rattle.adsc_downlink.proofs.Stepping.{items_end, items_full, items_next, items_of_items, first_item}
+use Rattle.adsc_downlink.proofs.Stepping.{with_items, items_end, items_full, items_next, items_of_items, first_item}
 
 -- ---- what is read is encoded
 
@@ -88,7 +89,7 @@ begins_item : (item : ItemData) (bits : List Bool) → EncodesItem item bits →
 unfolding item_bits
 begins_item (ack n) bits encoded = record { tag = 3; body = octets_bits (n ∷ []); fits = omega arith; known = refl; stands = encoded.1 }
 begins_item (nack n reason place) bits encoded =
-    record { tag = 4; body = octets_bits (n ∷ reason ∷ (if has_place reason then place ∷ [] else [])); fits = omega arith; known = refl; stands = encoded.4 }
+    record { tag = 4; body = octets_bits (n ∷ reason ∷ (if names_octet reason then place ∷ [] else [])); fits = omega arith; known = refl; stands = encoded.4 }
 begins_item (noncompliance n) bits encoded =
     record { tag = 5; body = octets_bits (n ∷ 1 ∷ 21 ∷ 64 ∷ []); fits = omega arith; known = refl; stands = encoded.1 }
 begins_item (emergency_off n) bits encoded = record { tag = 6; body = octets_bits (n ∷ []); fits = omega arith; known = refl; stands = encoded.1 }

@@ -4,25 +4,25 @@ use Rattle.std.proofs.lemmas.Bool.{cases_Bool, cases_lt}
 use Rattle.std.proofs.lemmas.Bool.Decides.{nat_tests}
 use Rattle.std.proofs.lemmas.List.{take_at}
 use Rattle.bit_terms.specs.Bits.{unsigned_bits}
-use Rattle.bit_terms.specs.Octets.{number_of}
-use Rattle.bit_terms.specs.Reading.{Unread, after, refused_as, ◌>>=◌}
+use Rattle.bit_terms.specs.Octets.{number_spelled}
+use Rattle.bit_terms.specs.Reading.{Unread, Takes, after, refused_as, ◌>>=◌}
 use Rattle.bit_terms.proofs.BitsLaws.{length-unsigned_bits}
-use Rattle.bit_terms.proofs.OctetsLaws.{number_of-unsigned_bits}
-use Rattle.bit_terms.proofs.ReadingLaws.{bind_ok, bind_err, ok_same, ok_is_no_err, taken_whole, Takes}
+use Rattle.bit_terms.proofs.OctetsLaws.{number_spelled-unsigned_bits}
+use Rattle.bit_terms.proofs.ReadingLaws.{bind_ok, bind_err, ok_same, ok_is_no_err, taken_whole, err_same}
 use Rattle.adsc_groups.specs.Fields.{size_of, IsFirstCut, fields_at}
 use Rattle.adsc_groups.specs.Groups.{GroupData, IsGroupTag, is_group_tag, group_fields, group_at}
 use Rattle.adsc_groups.specs.declared.refusal.GroupRefusal.{GroupRefusal}
 use Rattle.adsc_groups.specs.declared.refusal.GroupWhy.TheVariants as group_why
 use Rattle.adsc_groups.proofs.FieldsLaws.{fields_take, fields_again, fields_refused, first_cut_refused, length-encoding}
 use Rattle.adsc_groups.proofs.GroupLaws.{group_wide}
-use Rattle.adsc_groups.proofs.FieldsRead.{err_same}
 use Rattle.adsc_downlink.specs.Encodings.{EncodesEach, EncodesTaggedGroup}
 use Rattle.adsc_downlink.specs.Faults.{IsGroupFault}
-use Rattle.adsc_downlink.specs.Reading.{short_at, many_at, as_refusal, octet_at, begins, tagged_group_at, groups_at, with_front}
+use Rattle.adsc_downlink.specs.Reading.{octet_at, begins, tagged_group_at, groups_at}
+use Rattle.adsc_downlink.specs.Refusals.{short_at, many_at, as_refusal}
 use Rattle.adsc_downlink.specs.declared.refusal.DownRefusal.{DownRefusal}
 use Rattle.adsc_downlink.specs.declared.refusal.DownWhy.{DownWhy}
 use Rattle.adsc_downlink.proofs.OctetLaws.{refused_ok, refused_err, octet_takes, octet_again}
-use Rattle.adsc_downlink.proofs.Stepping.{groups_end, groups_full, groups_next, front_of_front}
+use Rattle.adsc_downlink.proofs.Stepping.{with_front, groups_end, groups_full, groups_next, front_of_front}
 
 -- ---- the octet that stands next
 
@@ -32,17 +32,17 @@ whole_octet unread enough = grind arith
 pub begins_octet : (test : ℕ → Bool) (value at : ℕ) (rest : List Bool) → value < 256 → begins test (record { left = unsigned_bits 8 value ++ rest; at = at }) ≡ test value
 begins_octet test value at rest fits =
     let enough : 8 ≤ length (unsigned_bits 8 value ++ rest) = omega (arith, length-append (unsigned_bits 8 value) rest, length-unsigned_bits 8 value) in
-    let number : number_of (take 8 (unsigned_bits 8 value ++ rest)) ≡ value =
-    ap number_of (take_at (unsigned_bits 8 value) rest 8 (length-unsigned_bits 8 value)) ∙ number_of-unsigned_bits 8 value fits in
+    let number : number_spelled (take 8 (unsigned_bits 8 value ++ rest)) ≡ value =
+    ap number_spelled (take_at (unsigned_bits 8 value) rest 8 (length-unsigned_bits 8 value)) ∙ number_spelled-unsigned_bits 8 value fits in
     ap₂ (λ there n. there && test n) (whole_octet (record { left = unsigned_bits 8 value ++ rest; at = at }) enough) number
 
 pub begins_short : (test : ℕ → Bool) (unread : Unread) → length unread.left < 8 → begins test unread ≡ false
 begins_short test unread few =
     let none : nat_le 8 (length unread.left) ≡ false = grind arith in
-    ap (λ there. there && test (number_of (take 8 unread.left))) none
+    ap (λ there. there && test (number_spelled (take 8 unread.left))) none
 
-pub octet_there : (unread : Unread) → 8 ≤ length unread.left → Takes 8 (number_of (take 8 unread.left)) unread (after 8 unread)
-octet_there unread enough = octet_takes (number_of (take 8 unread.left)) unread (after 8 unread) (ap (refused_as short_at) (taken_whole 8 unread enough))
+pub octet_there : (unread : Unread) → 8 ≤ length unread.left → Takes 8 (number_spelled (take 8 unread.left)) unread (after 8 unread)
+octet_there unread enough = octet_takes (number_spelled (take 8 unread.left)) unread (after 8 unread) (ap (refused_as short_at) (taken_whole 8 unread enough))
 
 -- An octet that passes stands next.
 pub record StandsNext (test : ℕ → Bool) (unread : Unread) : Type 0 where
@@ -62,11 +62,11 @@ stands_next test unread given = ⊎_elim none some (cases_lt (length unread.left
     some enough =
         let took = octet_there unread enough in
         record {
-          value = number_of (take 8 unread.left);
+          value = number_spelled (take 8 unread.left);
           rest = drop 8 unread.left;
           fits = took.fits;
           bits = took.bits;
-          passes = sym (ap (λ there. there && test (number_of (take 8 unread.left))) (whole_octet unread enough)) ∙ given;
+          passes = sym (ap (λ there. there && test (number_spelled (take 8 unread.left))) (whole_octet unread enough)) ∙ given;
         }
 
 -- ---- one group behind its tag

@@ -4,13 +4,14 @@ use Rattle.std.proofs.lemmas.Bool.{cases_Bool, both_ways, or_parts, and_parts, a
 use Rattle.bit_terms.specs.Bits.{unsigned_bits}
 use Rattle.bit_terms.specs.Octets.{octets_bits}
 use Rattle.bit_terms.specs.Reading.{Unread, ◌>>=◌}
-use Rattle.bit_terms.proofs.ReadingLaws.{bind_err, ok_is_no_err}
-use Rattle.adsc_groups.proofs.FieldsRead.{err_same}
-use Rattle.adsc_downlink.specs.Codes.{any, is_reason, has_place, is_octet_tag, is_report_tag, is_item_tag, item_tests}
+use Rattle.bit_terms.proofs.ReadingLaws.{bind_err, ok_is_no_err, err_same}
+use Rattle.contract_rules.specs.Reasons.{names_octet}
+use Rattle.adsc_downlink.specs.Codes.{any, is_reason, is_octet_tag, is_report_tag, is_item_tag, item_tests}
 use Rattle.adsc_downlink.specs.Items.{ItemData}
 use Rattle.adsc_downlink.specs.Items.ItemData.{ack, nack, noncompliance, emergency_off, report}
 use Rattle.adsc_downlink.specs.Faults.{IsFirstOctetFault, IsPlaceCut, IsBodyFault, IsItemFault}
-use Rattle.adsc_downlink.specs.Reading.{short_at, tag_at, octet_at, octets_where, nack_at, number_at, report_at, body_at, item_at}
+use Rattle.adsc_downlink.specs.Reading.{octet_at, octets_where, nack_at, number_at, report_at, body_at, item_at}
+use Rattle.adsc_downlink.specs.Refusals.{short_at, tag_at}
 use Rattle.adsc_downlink.specs.declared.refusal.DownRefusal.{DownRefusal}
 use Rattle.adsc_downlink.specs.declared.refusal.DownWhy.{DownWhy}
 use Rattle.adsc_downlink.specs.declared.refusal.DownWhy.TheVariants as why
@@ -29,9 +30,9 @@ number_refused tag old refusal given =
 
 place_refused : (n reason : ℕ) (old now : Unread) (refusal : DownRefusal) → n < 256 → IsTrue (is_reason reason) → old.left ≡ octets_bits (n ∷ reason ∷ []) ++ now.left
     → now.at ≡ old.at + 16 → place_behind n reason now ≡ Err refusal → IsPlaceCut old refusal.bit × (refusal.why ≡ why.Short)
-place_refused n reason old now refusal fits known bits at given = ⊎_elim with_place without_place (cases_Bool (has_place reason))
+place_refused n reason old now refusal fits known bits at given = ⊎_elim with_place without_place (cases_Bool (names_octet reason))
   where
-    with_place : has_place reason ≡ true → IsPlaceCut old refusal.bit × (refusal.why ≡ why.Short)
+    with_place : names_octet reason ≡ true → IsPlaceCut old refusal.bit × (refusal.why ≡ why.Short)
     with_place has =
         ⊎_elim
         (λ e. let p = octet_refused now refusal e in (
@@ -49,7 +50,7 @@ place_refused n reason old now refusal fits known bits at given = ⊎_elim with_
         (bind_err (octet_at now) (λ place. Ok (nack n reason place.0, place.1)) refusal
         (sym (ap (λ test. if test then (octet_at now >>= λ place. Ok (nack n reason place.0, place.1)) else Ok (nack n reason 0, now)) has) ∙ given))
 
-    without_place : has_place reason ≡ false → IsPlaceCut old refusal.bit × (refusal.why ≡ why.Short)
+    without_place : names_octet reason ≡ false → IsPlaceCut old refusal.bit × (refusal.why ≡ why.Short)
     without_place none =
         absurd (ok_is_no_err (nack n reason 0, now) refusal
         (sym (ap (λ test. if test then (octet_at now >>= λ place. Ok (nack n reason place.0, place.1)) else Ok (nack n reason 0, now)) none) ∙ given))
@@ -63,7 +64,7 @@ nack_refused old refusal given =
     let turn = nack_turn old p.0.1 took.n took.reason (p.1 ∙ ap (λ xs. Ok (xs, p.0.1)) took.listed) in
     inr (place_refused took.n took.reason old p.0.1 refusal took.n_fits took.known took.bits took.place (sym turn ∙ given)))
     (bind_err (octets_where (item_tests 4) old) (λ octets.
-    if has_place (get_or octets.0 1 0) then
+    if names_octet (get_or octets.0 1 0) then
     (octet_at octets.1 >>= λ place. Ok (nack (get_or octets.0 0 0) (get_or octets.0 1 0) place.0, place.1))
     else Ok (nack (get_or octets.0 0 0) (get_or octets.0 1 0) 0, octets.1)) refusal given)
 
@@ -152,20 +153,20 @@ nack_fault : (old : Unread) (bit : ℕ) (cause : DownWhy) → IsFirstOctetFault 
 unfolding nack_at
 nack_fault old bit cause fault =
     ap (λ reading. reading >>= λ octets.
-    if has_place (get_or octets.0 1 0) then
+    if names_octet (get_or octets.0 1 0) then
     (octet_at octets.1 >>= λ place. Ok (nack (get_or octets.0 0 0) (get_or octets.0 1 0) place.0, place.1))
     else Ok (nack (get_or octets.0 0 0) (get_or octets.0 1 0) 0, octets.1)) (octets_fault (item_tests 4) old (record { bit = bit; why = cause }) fault)
 
 -- A reason with a place is a reason.
-place_has_reason : (reason : ℕ) → reason < 256 → IsTrue (has_place reason) → IsTrue (is_reason reason)
+place_has_reason : (reason : ℕ) → reason < 256 → IsTrue (names_octet reason) → IsTrue (is_reason reason)
 place_has_reason reason fits has =
-    let same : (has_place reason && is_reason reason) ≡ has_place reason = agree_below_at (λ r. has_place r && is_reason r) has_place 256 reason refl fits in
-    (and_parts (has_place reason) (is_reason reason) (same ∙ has)).1
+    let same : (names_octet reason && is_reason reason) ≡ names_octet reason = agree_below_at (λ r. names_octet r && is_reason r) names_octet 256 reason refl fits in
+    (and_parts (names_octet reason) (is_reason reason) (same ∙ has)).1
 
 nack_cut : (old : Unread) (bit : ℕ) → IsPlaceCut old bit → nack_at old ≡ Err (short_at bit)
 nack_cut old bit cut =
-    let a = first_passes any (has_place ∷ []) cut.octets cut.pass in
-    let b = first_passes has_place [] a.behind a.pass in
+    let a = first_passes any (names_octet ∷ []) cut.octets cut.pass in
+    let b = first_passes names_octet [] a.behind a.pass in
     let listed : cut.octets ≡ a.first ∷ b.first ∷ [] = a.listed ∙ ap (λ xs. a.first ∷ xs) (b.listed ∙ ap (λ xs. b.first ∷ xs) b.pass) in
     let now : Unread = record { left = cut.rest; at = old.at + 16 } in
     ap (λ left. nack_at (record { left = left; at = old.at })) (cut.stand ∙ ap (λ xs. octets_bits xs ++ cut.rest) listed)

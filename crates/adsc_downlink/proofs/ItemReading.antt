@@ -8,12 +8,14 @@ use Rattle.bit_terms.proofs.BitsLaws.{length-unsigned_bits}
 use Rattle.bit_terms.proofs.OctetsLaws.{length-octets_bits, octets_bits-append}
 use Rattle.bit_terms.proofs.ReadingLaws.{bind_ok, ok_same, ok_is_no_err}
 use Rattle.adsc_groups.specs.Groups.{is_group_tag}
-use Rattle.adsc_downlink.specs.Codes.{any, only, is_reason, has_place, is_place_of, is_octet_tag, is_report_tag, item_tests}
+use Rattle.contract_rules.specs.Reasons.{names_octet}
+use Rattle.adsc_downlink.specs.Codes.{any, only, is_reason, is_place_of, is_octet_tag, is_report_tag, item_tests}
 use Rattle.adsc_downlink.specs.Items.{ReportData, ItemData, item_bits}
 use Rattle.adsc_downlink.specs.Items.ItemData.{ack, nack, noncompliance, emergency_off, report}
 use Rattle.adsc_downlink.specs.Encodings.{EncodesReport, EncodesItem}
 use Rattle.adsc_downlink.specs.Faults.{PassEach, is_report}
-use Rattle.adsc_downlink.specs.Reading.{tag_at, octet_at, octets_where, begins, nack_at, number_at, report_at, body_at, item_at}
+use Rattle.adsc_downlink.specs.Reading.{octet_at, octets_where, begins, nack_at, number_at, report_at, body_at, item_at}
+use Rattle.adsc_downlink.specs.Refusals.{tag_at}
 use Rattle.adsc_downlink.specs.declared.refusal.DownRefusal.{DownRefusal}
 use Rattle.adsc_downlink.proofs.GroupReading.{TakesEncoding}
 use Rattle.adsc_downlink.proofs.OctetLaws.{octet_takes, octet_again, octets_take, octets_again}
@@ -188,30 +190,30 @@ two_taken octets old now given =
 -- What stands behind the two octets.
 abbrev pub place_behind : ℕ → ℕ → Unread → Result (ItemData × Unread) DownRefusal
 place_behind n reason now =
-    if has_place reason then (octet_at now >>= λ place. Ok (nack n reason place.0, place.1)) else Ok (nack n reason 0, now)
+    if names_octet reason then (octet_at now >>= λ place. Ok (nack n reason place.0, place.1)) else Ok (nack n reason 0, now)
 
 pub nack_turn : (old now : Unread) (n reason : ℕ) → octets_where (item_tests 4) old ≡ Ok (n ∷ reason ∷ [], now) → nack_at old ≡ place_behind n reason now
 unfolding nack_at
 nack_turn old now n reason read =
     ap (λ reading. reading >>= λ octets.
-    if has_place (get_or octets.0 1 0) then
+    if names_octet (get_or octets.0 1 0) then
     (octet_at octets.1 >>= λ place. Ok (nack (get_or octets.0 0 0) (get_or octets.0 1 0) place.0, place.1))
     else Ok (nack (get_or octets.0 0 0) (get_or octets.0 1 0) 0, octets.1)) read
 
 -- A negative acknowledgement with a place, and one without.
-nack_with_place : (n reason place : ℕ) → has_place reason ≡ true → item_bits (nack n reason place) ≡ octets_bits (4 ∷ n ∷ reason ∷ place ∷ [])
+nack_with_place : (n reason place : ℕ) → names_octet reason ≡ true → item_bits (nack n reason place) ≡ octets_bits (4 ∷ n ∷ reason ∷ place ∷ [])
 unfolding item_bits
 nack_with_place n reason place has = ap (λ test. octets_bits (4 ∷ n ∷ reason ∷ (if test then place ∷ [] else []))) has
 
-nack_without_place : (n reason place : ℕ) → has_place reason ≡ false → item_bits (nack n reason place) ≡ octets_bits (4 ∷ n ∷ reason ∷ [])
+nack_without_place : (n reason place : ℕ) → names_octet reason ≡ false → item_bits (nack n reason place) ≡ octets_bits (4 ∷ n ∷ reason ∷ [])
 unfolding item_bits
 nack_without_place n reason place none = ap (λ test. octets_bits (4 ∷ n ∷ reason ∷ (if test then place ∷ [] else []))) none
 
 place_taken : (n reason : ℕ) (item : ItemData) (old now new : Unread) → n < 256 → IsTrue (is_reason reason) → old.left ≡ octets_bits (n ∷ reason ∷ []) ++ now.left
     → now.at ≡ old.at + 16 → place_behind n reason now ≡ Ok (item, new) → TakesBody 4 item old new
-place_taken n reason item old now new n_fits known bits at given = ⊎_elim with_place without_place (cases_Bool (has_place reason))
+place_taken n reason item old now new n_fits known bits at given = ⊎_elim with_place without_place (cases_Bool (names_octet reason))
   where
-    with_place : has_place reason ≡ true → TakesBody 4 item old new
+    with_place : names_octet reason ≡ true → TakesBody 4 item old new
     with_place has =
         let p = bind_ok (octet_at now) (λ place. Ok (nack n reason place.0, place.1)) (item, new)
         (sym (ap (λ test. if test then (octet_at now >>= λ place. Ok (nack n reason place.0, place.1)) else Ok (nack n reason 0, now)) has) ∙ given) in
@@ -228,7 +230,7 @@ place_taken n reason item old now new n_fits known bits at given = ⊎_elim with
           closed = λ wrong. absurd (cc);
         })
 
-    without_place : has_place reason ≡ false → TakesBody 4 item old new
+    without_place : names_octet reason ≡ false → TakesBody 4 item old new
     without_place none =
         let same = ok_same {F = DownRefusal} (nack n reason 0, now) (item, new)
         (sym (ap (λ test. if test then (octet_at now >>= λ place. Ok (nack n reason place.0, place.1)) else Ok (nack n reason 0, now)) none) ∙ given) in
@@ -243,7 +245,7 @@ nack_taken : (item : ItemData) (old new : Unread) → nack_at old ≡ Ok (item, 
 unfolding nack_at
 nack_taken item old new given =
     let p = bind_ok (octets_where (item_tests 4) old) (λ octets.
-    if has_place (get_or octets.0 1 0) then
+    if names_octet (get_or octets.0 1 0) then
     (octet_at octets.1 >>= λ place. Ok (nack (get_or octets.0 0 0) (get_or octets.0 1 0) place.0, place.1))
     else Ok (nack (get_or octets.0 0 0) (get_or octets.0 1 0) 0, octets.1)) (item, new) given in
     let took = two_taken p.0.0 old p.0.1 p.1 in
@@ -370,12 +372,12 @@ nack_again : (n reason place at : ℕ) (bits rest : List Bool) → n < 256 → I
     → bits ≡ item_bits (nack n reason place)
     → item_at (record { left = bits ++ rest; at = at }) ≡ Ok (nack n reason place, record { left = rest; at = at + length bits })
 unfolding body_at
-nack_again n reason place at bits rest fits known place_fits due same = ⊎_elim with_place without_place (cases_Bool (has_place reason))
+nack_again n reason place at bits rest fits known place_fits due same = ⊎_elim with_place without_place (cases_Bool (names_octet reason))
   where
     reason_fits : reason < 256
     reason_fits = reason_octet reason known
 
-    with_place : has_place reason ≡ true → item_at (record { left = bits ++ rest; at = at }) ≡ Ok (nack n reason place, record { left = rest; at = at + length bits })
+    with_place : names_octet reason ≡ true → item_at (record { left = bits ++ rest; at = at }) ≡ Ok (nack n reason place, record { left = rest; at = at + length bits })
     with_place has =
         let regrouped : octets_bits (n ∷ reason ∷ place ∷ []) ++ rest ≡ octets_bits (n ∷ reason ∷ []) ++ (unsigned_bits 8 place ++ rest) =
         ap (λ b. b ++ rest) (octets_bits-append (n ∷ reason ∷ []) (place ∷ []))
@@ -390,7 +392,7 @@ nack_again n reason place at bits rest fits known place_fits due same = ⊎_elim
         ∙ ap (λ reading. reading >>= λ p. Ok (nack n reason p.0, p.1)) (octet_again place (at + 8 + 16) rest place_fits)
         ∙ ap (λ bit. Ok (nack n reason place, record { left = rest; at = bit })) (let e : at + 8 + 16 + 8 ≡ at + 8 + 8 * 3 = omega arith in e))
 
-    without_place : has_place reason ≡ false → item_at (record { left = bits ++ rest; at = at }) ≡ Ok (nack n reason place, record { left = rest; at = at + length bits })
+    without_place : names_octet reason ≡ false → item_at (record { left = bits ++ rest; at = at }) ≡ Ok (nack n reason place, record { left = rest; at = at + length bits })
     without_place none =
         let zero_place : place ≡ 0 = eqb-true place 0 (sym (ap (λ test. test || place == 0) none) ∙ due) in
         octets_item (nack n reason place) 4 (n ∷ reason ∷ []) bits rest at (omega arith) (same ∙ nack_without_place n reason place none)

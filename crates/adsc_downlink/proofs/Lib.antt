@@ -11,3 +11,4 @@ pub mod OneReading
 pub mod ReportReading
 pub mod Sizes
 pub mod Stepping
+pub mod SameValues

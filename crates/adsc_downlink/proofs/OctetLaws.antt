@@ -2,11 +2,11 @@
 use Rattle.std.proofs.Common.{◌≡◌, ℕ, ◌+◌, ◌*◌, ◌<◌, Bool, true, false, List, [], ◌∷◌, ◌++◌, length, Result, Ok, Err, IsTrue, cond, refl, sym, ap, ap₂, ◌∙◌, subst, inl, inr, ⊎_elim, arith, append_assoc, if◌then◌else◌}
 use Rattle.bit_terms.specs.Bits.{unsigned_bits}
 use Rattle.bit_terms.specs.Octets.{octets_bits}
-use Rattle.bit_terms.specs.Reading.{Unread, taken, refused_as, ◌>>=◌}
-use Rattle.bit_terms.proofs.ReadingLaws.{bind_ok, bind_err, ok_same, ok_is_no_err, taken_short, taken_again, taken_refused, Takes, taken_takes}
-use Rattle.adsc_groups.proofs.FieldsRead.{err_same}
+use Rattle.bit_terms.specs.Reading.{Unread, Takes, taken, refused_as, ◌>>=◌}
+use Rattle.bit_terms.proofs.ReadingLaws.{bind_ok, bind_err, ok_same, ok_is_no_err, taken_short, taken_again, taken_refused, taken_takes, err_same}
 use Rattle.adsc_downlink.specs.Faults.{PassEach, IsOctetFault, IsFirstOctetFault}
-use Rattle.adsc_downlink.specs.Reading.{short_at, value_at, octet_at, octet_where, octets_where}
+use Rattle.adsc_downlink.specs.Reading.{octet_at, octet_where, octets_where}
+use Rattle.adsc_downlink.specs.Refusals.{short_at, value_at}
 use Rattle.adsc_downlink.specs.declared.refusal.DownRefusal.{DownRefusal}
 use Rattle.adsc_downlink.specs.declared.refusal.DownWhy.TheVariants as why
 

@@ -1,7 +1,6 @@
 -- Each payload has exactly one reading.
 use Rattle.std.proofs.Common.{◌≡◌, ℕ, Bool, List, Result, Ok, Err, ◌⊎◌, inl, inr, refl, sym, ap, ◌∙◌}
-use Rattle.bit_terms.proofs.ReadingLaws.{ok_same, ok_is_no_err}
-use Rattle.adsc_groups.proofs.FieldsRead.{err_same}
+use Rattle.bit_terms.proofs.ReadingLaws.{ok_same, ok_is_no_err, err_same}
 use Rattle.adsc_downlink.specs.Items.{ItemData}
 use Rattle.adsc_downlink.specs.Encodings.{EncodesDownlink}
 use Rattle.adsc_downlink.specs.Faults.{IsFirstDownlinkFault}

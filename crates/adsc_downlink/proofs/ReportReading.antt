@@ -13,13 +13,14 @@ use Rattle.adsc_downlink.specs.Codes.{is_report_tag}
 use Rattle.adsc_downlink.specs.Items.{ReportData}
 use Rattle.adsc_downlink.specs.Encodings.{EncodesEach, EncodesTaggedGroup, EncodesReport}
 use Rattle.adsc_downlink.specs.Faults.{IsGroupFault, IsFirstGroupFault}
-use Rattle.adsc_downlink.specs.Reading.{short_at, begins, basic_from, basic_at, groups_at, report_at, with_front}
+use Rattle.adsc_downlink.specs.Reading.{begins, basic_from, basic_at, groups_at, report_at}
+use Rattle.adsc_downlink.specs.Refusals.{short_at}
 use Rattle.adsc_downlink.specs.declared.refusal.DownRefusal.{DownRefusal}
 use Rattle.adsc_downlink.specs.declared.refusal.DownWhy.{DownWhy}
 use Rattle.adsc_downlink.specs.declared.refusal.DownWhy.TheVariants as why
 use Rattle.adsc_downlink.proofs.GroupReading.{TakesEncoding, groups_take, groups_through, groups_refused, groups_fault}
 use Rattle.adsc_downlink.proofs.OctetLaws.{refused_ok, refused_err}
-use Rattle.adsc_downlink.proofs.Stepping.{groups_end}
+use Rattle.adsc_downlink.proofs.Stepping.{with_front, groups_end}
 
 -- ---- the basic data
 

@@ -1,5 +1,5 @@
 -- How long encodings are.
-use Rattle.std.proofs.Common.{◌≡◌, ℕ, ◌+◌, ◌*◌, Bool, true, false, List, [], ◌∷◌, ◌++◌, length, map, flat_map, ap, sym, ◌∙◌, length-append, refl, arith, if◌then◌else◌}
+use Rattle.std.proofs.Common.{◌≡◌, ℕ, ◌+◌, ◌*◌, ◌%◌, Bool, true, false, List, [], ◌∷◌, ◌++◌, length, map, flat_map, ap, sym, ◌∙◌, length-append, refl, arith, if◌then◌else◌}
 use Rattle.bit_terms.specs.Bits.{unsigned_bits}
 use Rattle.bit_terms.specs.Octets.{octets_bits}
 use Rattle.bit_terms.proofs.BitsLaws.{length-unsigned_bits}
@@ -12,10 +12,14 @@ use Rattle.adsc_groups.specs.declared.basic.Basic.{Basic}
 use Rattle.adsc_groups.specs.declared.group.Group.{Group}
 use Rattle.adsc_groups.proofs.FieldsLaws.{length-fields_bits}
 use Rattle.adsc_groups.proofs.FitLaws.{basic_fits, group_fits}
-use Rattle.adsc_downlink.specs.Codes.{has_place}
-use Rattle.adsc_downlink.specs.Items.{ItemData, tagged_group_bits, report_bits, item_bits, downlink_bits}
-use Rattle.adsc_downlink.specs.Items.ItemData.{ack, nack, report}
-use Rattle.adsc_downlink.specs.ItemView.{report_group_data, report_data}
+use Rattle.adsc_groups.specs.declared.group.Group.TheVariants as groups
+use Rattle.contract_rules.specs.Reasons.{names_octet}
+use Rattle.adsc_downlink.specs.Codes.{noncompliance_octets}
+use Rattle.adsc_downlink.specs.Items.{tagged_group_bits, report_bits, item_bits}
+use Rattle.adsc_downlink.specs.Items.ItemData.{nack, report}
+use Rattle.adsc_downlink.specs.ItemView.{report_group_data, report_data, item_data}
+use Rattle.adsc_downlink.specs.declared.item.Item.{Item}
+use Rattle.adsc_downlink.specs.declared.item.Item.TheVariants as items
 use Rattle.adsc_downlink.specs.declared.report.Report.{Report}
 use Rattle.adsc_downlink.specs.declared.report.ReportGroup.{ReportGroup}
 
@@ -35,9 +39,9 @@ length-tagged_group_bits group =
 pub length-octets : (octets : List ℕ) (count : ℕ) → length octets ≡ count → length (octets_bits octets) ≡ 8 * count
 length-octets octets count same = omega (arith, length-octets_bits octets)
 
-pub length-nack : (n reason place : ℕ) → length (item_bits (nack n reason place)) ≡ 8 * (if has_place reason then 4 else 3)
+pub length-nack : (n reason place : ℕ) → length (item_bits (nack n reason place)) ≡ 8 * (if names_octet reason then 4 else 3)
 unfolding item_bits
-length-nack n reason place = chosen (has_place reason)
+length-nack n reason place = chosen (names_octet reason)
   where
     chosen : (test : Bool) → length (octets_bits (4 ∷ n ∷ reason ∷ (if test then place ∷ [] else []))) ≡ 8 * (if test then 4 else 3)
     chosen true = length-octets_bits (4 ∷ n ∷ reason ∷ place ∷ [])
@@ -65,11 +69,44 @@ length-report one groups size same counted =
     let sum : 8 * (11 + size) ≡ 88 + length (flat_map tagged_group_bits (map report_group_data one.groups.items)) = omega (arith, counted, listed) in
     sum ∙ sym whole
 
-pub length-two : (a b : ItemData) → length (downlink_bits (a ∷ b ∷ [])) ≡ length (item_bits a) + length (item_bits b)
-unfolding downlink_bits
-length-two a b =
-    omega (arith, length-append (item_bits a) (flat_map item_bits (b ∷ [])), length-append (item_bits b) (flat_map item_bits []))
+-- ---- whole octets
 
-pub length-ack : (n : ℕ) → length (item_bits (ack n)) ≡ 16
+whole_sum : (a b : ℕ) → a % 8 ≡ 0 → b % 8 ≡ 0 → (a + b) % 8 ≡ 0
+whole_sum a b one other = omega arith
+
+-- The data of a group is whole octets.
+whole_group : (group : Group) → group_size group % 8 ≡ 0
+whole_group (groups.FlightId id) = refl
+whole_group (groups.Route route) = refl
+whole_group (groups.Earth motion) = refl
+whole_group (groups.Air motion) = refl
+whole_group (groups.Weather weather) = refl
+whole_group (groups.Airframe airframe) = refl
+whole_group (groups.Intermediate intermediate) = refl
+whole_group (groups.Fixed fixed) = refl
+
+whole_groups : (list : List ReportGroup) → length (flat_map tagged_group_bits (map report_group_data list)) % 8 ≡ 0
+whole_groups [] = refl
+whole_groups (group ∷ others) =
+    ap (λ n. n % 8) (length-append (tagged_group_bits (report_group_data group)) (flat_map tagged_group_bits (map report_group_data others)))
+    ∙ whole_sum (length (tagged_group_bits (report_group_data group))) (length (flat_map tagged_group_bits (map report_group_data others)))
+    (omega (arith, length-tagged_group_bits group.0, whole_group group.0)) (whole_groups others)
+
+whole_octets : (octets : List ℕ) → length (octets_bits octets) % 8 ≡ 0
+whole_octets octets = omega (arith, length-octets_bits octets)
+
+-- An item is whole octets, and so are items.
+pub whole_item : (item : Item) → length (item_bits (item_data item)) % 8 ≡ 0
 unfolding item_bits
-length-ack n = length-octets (3 ∷ n ∷ []) 2 refl
+whole_item (items.Ack n) = whole_octets (3 ∷ n ∷ [])
+whole_item (items.Nack k) = whole_octets (4 ∷ k.n ∷ k.reason ∷ (if names_octet k.reason then k.octet ∷ [] else []))
+whole_item (items.Noncompliance n) = whole_octets (5 ∷ n ∷ noncompliance_octets)
+whole_item (items.EmergencyOff n) = whole_octets (6 ∷ n ∷ [])
+whole_item (items.Report one) =
+    omega (arith, length-report_bits one.tag one.basic (map report_group_data one.groups.items), whole_groups one.groups.items)
+
+pub whole_items : (list : List Item) → length (flat_map item_bits (map item_data list)) % 8 ≡ 0
+whole_items [] = refl
+whole_items (item ∷ others) =
+    ap (λ n. n % 8) (length-append (item_bits (item_data item)) (flat_map item_bits (map item_data others)))
+    ∙ whole_sum (length (item_bits (item_data item))) (length (flat_map item_bits (map item_data others))) (whole_item item) (whole_items others)

@@ -1,25 +1,33 @@
 -- Reading groups and items one after the other: what each turn of a loop leaves.
 use Rattle.std.proofs.Common.{◌≡◌, ℕ, zero, suc, ◌+◌, ◌-◌, ◌<◌, ◌≤◌, true, false, List, [], ◌∷◌, ◌++◌, ◌==◌, length, take, Some, None, Result, Ok, Err, refl, sym, ap, ◌∙◌, arith, append_assoc, append-nil, ⊎_elim, le-ltb, nat_lt, if◌then◌else◌}
 use Rattle.std.proofs.lemmas.Bool.{cases_lt}
-use Rattle.bit_terms.specs.Octets.{number_of}
+use Rattle.bit_terms.specs.Octets.{number_spelled}
 use Rattle.bit_terms.specs.Reading.{Unread, after, taken, ◌>>=◌}
 use Rattle.bit_terms.proofs.ReadingLaws.{ok_same, ok_is_no_err, taken_whole, taken_short}
 use Rattle.adsc_groups.specs.Groups.{GroupData, is_group_tag}
 use Rattle.adsc_downlink.specs.Items.{ItemData}
-use Rattle.adsc_downlink.specs.Reading.{many_at, begins, tagged_group_at, groups_at, item_at, ninth_at, items_at, downlink_at, with_front, with_items}
+use Rattle.adsc_downlink.specs.Reading.{begins, tagged_group_at, groups_at, item_at, ninth_at, items_at, downlink_at}
+use Rattle.adsc_downlink.specs.Refusals.{many_at}
 use Rattle.adsc_downlink.specs.declared.refusal.DownRefusal.{DownRefusal}
+
+-- What is read behind these values, with them in front.
+abbrev pub with_front : {A F : Type 0} → List A → Result (List A × Unread) F → Result (List A × Unread) F
+with_front front reading = reading >>= λ others. Ok (front ++ others.0, others.1)
+
+abbrev pub with_items : {A F : Type 0} → List A → Result (List A) F → Result (List A) F
+with_items front reading = reading >>= λ others. Ok (front ++ others)
 
 -- The octet that stands next.
 pub next_taken : (unread now : Unread) (value : ℕ) → taken 8 unread ≡ Ok (value, now)
-    → (if nat_lt (length unread.left) 8 then None else Some (number_of (take 8 unread.left))) ≡ Some value
+    → (if nat_lt (length unread.left) 8 then None else Some (number_spelled (take 8 unread.left))) ≡ Some value
 next_taken unread now value given = ⊎_elim short whole (cases_lt (length unread.left) 8)
   where
-    short : length unread.left < 8 → (if nat_lt (length unread.left) 8 then None else Some (number_of (take 8 unread.left))) ≡ Some value
+    short : length unread.left < 8 → (if nat_lt (length unread.left) 8 then None else Some (number_spelled (take 8 unread.left))) ≡ Some value
     short few = absurd (ok_is_no_err (value, now) unread.at (sym given ∙ taken_short 8 unread few))
 
-    whole : 8 ≤ length unread.left → (if nat_lt (length unread.left) 8 then None else Some (number_of (take 8 unread.left))) ≡ Some value
+    whole : 8 ≤ length unread.left → (if nat_lt (length unread.left) 8 then None else Some (number_spelled (take 8 unread.left))) ≡ Some value
     whole enough =
-        let same = ok_same {F = ℕ} (number_of (take 8 unread.left), after 8 unread) (value, now) (sym (taken_whole 8 unread enough) ∙ given) in
+        let same = ok_same {F = ℕ} (number_spelled (take 8 unread.left), after 8 unread) (value, now) (sym (taken_whole 8 unread enough) ∙ given) in
         rw (le-ltb (length unread.left) 8 enough) (ap (λ p. Some p.0) same)
 
 -- ---- groups

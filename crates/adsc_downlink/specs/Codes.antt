@@ -1,5 +1,6 @@
 -- The numbers that stand in downlink items: tags, reasons and fixed octets (RTCA DO-258A / EUROCAE ED-100A; the tables are this project's profile).
 use Rattle.std.specs.Prelude.{ℕ, Bool, true, List, [], ◌∷◌, ◌||◌, ◌&&◌, ◌==◌, nat_le, if◌then◌else◌}
+use Rattle.contract_rules.specs.Reasons.{names_octet}
 
 -- The tags of reports: basic 7, emergency 9, lateral event 10, vertical rate event 18, altitude event 19, waypoint event 20.
 abbrev pub is_report_tag : ℕ → Bool
@@ -17,13 +18,9 @@ is_item_tag tag = is_octet_tag tag || is_report_tag tag
 abbrev pub is_reason : ℕ → Bool
 is_reason reason = nat_le 1 reason && nat_le reason 13
 
--- The reasons behind which the place of the faulty octet stands: 1, 2 and 7.
-abbrev pub has_place : ℕ → Bool
-has_place reason = reason == 1 || reason == 2 || reason == 7
-
 -- A place is given only where the reason has one.
 abbrev pub is_place_of : ℕ → ℕ → Bool
-is_place_of reason place = has_place reason || place == 0
+is_place_of reason place = names_octet reason || place == 0
 
 -- The octets that stand behind the number of a noncompliance.
 abbrev pub noncompliance_octets : List ℕ

@@ -10,7 +10,8 @@ use Rattle.bit_terms.specs.Reading.{Unread}
 use Rattle.adsc_groups.specs.Fields.{Encodes, IsFirstCut}
 use Rattle.adsc_groups.specs.Basic.{basic_fields}
 use Rattle.adsc_groups.specs.Groups.{GroupData, IsGroupTag, is_group_tag, group_fields}
-use Rattle.adsc_downlink.specs.Codes.{any, is_report_tag, is_item_tag, is_octet_tag, has_place, item_tests}
+use Rattle.contract_rules.specs.Reasons.{names_octet}
+use Rattle.adsc_downlink.specs.Codes.{any, is_report_tag, is_item_tag, is_octet_tag, item_tests}
 use Rattle.adsc_downlink.specs.Items.{ItemData}
 use Rattle.adsc_downlink.specs.Items.ItemData.{ack, nack, noncompliance, emergency_off, report}
 use Rattle.adsc_downlink.specs.Encodings.{EncodesEach, EncodesTaggedGroup, EncodesItem}
@@ -76,7 +77,7 @@ pub record IsFirstGroupFault (unread : Unread) (bit : ℕ) (cause : DownWhy) : T
 pub record IsPlaceCut (unread : Unread) (bit : ℕ) : Type 0 where
   pub octets : List ℕ
   pub rest : List Bool
-  pub pass : PassEach (any ∷ has_place ∷ []) octets
+  pub pass : PassEach (any ∷ names_octet ∷ []) octets
   pub stand : unread.left ≡ octets_bits octets ++ rest
   pub cut : length rest < 8
   pub place : bit ≡ unread.at + 16

@@ -4,7 +4,8 @@ use Rattle.bit_terms.specs.Bits.{unsigned_bits}
 use Rattle.bit_terms.specs.Octets.{octets_bits}
 use Rattle.adsc_groups.specs.Basic.{BasicData, basic_bits}
 use Rattle.adsc_groups.specs.Groups.{GroupData, group_bits}
-use Rattle.adsc_downlink.specs.Codes.{has_place, noncompliance_octets}
+use Rattle.contract_rules.specs.Reasons.{names_octet}
+use Rattle.adsc_downlink.specs.Codes.{noncompliance_octets}
 
 -- A report as plain data: its tag, its basic data, and its groups in their order.
 pub record ReportData : Type 0 where
@@ -31,7 +32,7 @@ report_bits one = unsigned_bits 8 one.tag ++ (basic_bits one.basic ++ flat_map t
 -- An item: its tag, and what the table of items lists behind it.
 unfoldable pub item_bits : ItemData → List Bool
 item_bits (ack n) = octets_bits (3 ∷ n ∷ [])
-item_bits (nack n reason place) = octets_bits (4 ∷ n ∷ reason ∷ (if has_place reason then place ∷ [] else []))
+item_bits (nack n reason place) = octets_bits (4 ∷ n ∷ reason ∷ (if names_octet reason then place ∷ [] else []))
 item_bits (noncompliance n) = octets_bits (5 ∷ n ∷ noncompliance_octets)
 item_bits (emergency_off n) = octets_bits (6 ∷ n ∷ [])
 item_bits (report one) = report_bits one

@@ -4,3 +4,4 @@ pub mod Faults
 pub mod Items
 pub mod ItemView
 pub mod Reading
+pub mod Refusals

@@ -1,41 +1,17 @@
--- Reading a downlink as a function of what is left to read: the value with what is then left, or the first refusal (this project's profile).
-use Rattle.std.specs.Prelude.{ℕ, suc, zero, ℤ, pos, unsigned_abs, Bool, List, [], ◌∷◌, ◌++◌, ◌&&◌, ◌==◌, nat_le, nat_lt, length, take, get_or, Result, Ok, Err, if◌then◌else◌}
-use Rattle.bit_terms.specs.Octets.{number_of}
+-- Reading a downlink as a function of what is left to read: the value with what is then left, or the first refusal. It serves the contracts of the
+-- decoder's private functions alone: what a downlink is stands in Encodings, and what its first fault is in Faults, apart from it.
+use Rattle.std.specs.Prelude.{ℕ, suc, zero, ℤ, pos, unsigned_abs, Bool, List, [], ◌∷◌, ◌&&◌, ◌==◌, nat_le, nat_lt, length, take, get_or, Result, Ok, Err, if◌then◌else◌}
+use Rattle.bit_terms.specs.Octets.{number_spelled}
 use Rattle.bit_terms.specs.Reading.{Unread, taken, refused_as, ◌>>=◌}
 use Rattle.adsc_groups.specs.Fields.{fields_at}
 use Rattle.adsc_groups.specs.Basic.{BasicData, basic_fields}
 use Rattle.adsc_groups.specs.Groups.{GroupData, is_group_tag, group_at}
-use Rattle.adsc_groups.specs.declared.refusal.GroupRefusal.{GroupRefusal}
-use Rattle.adsc_groups.specs.declared.refusal.GroupWhy.{GroupWhy}
-use Rattle.adsc_groups.specs.declared.refusal.GroupWhy.TheVariants as group_why
-use Rattle.adsc_downlink.specs.Codes.{is_report_tag, is_item_tag, has_place, item_tests}
+use Rattle.contract_rules.specs.Reasons.{names_octet}
+use Rattle.adsc_downlink.specs.Codes.{is_report_tag, is_item_tag, item_tests}
 use Rattle.adsc_downlink.specs.Items.{ReportData, ItemData}
 use Rattle.adsc_downlink.specs.Items.ItemData.{ack, nack, noncompliance, emergency_off, report}
+use Rattle.adsc_downlink.specs.Refusals.{short_at, tag_at, value_at, many_at, as_refusal}
 use Rattle.adsc_downlink.specs.declared.refusal.DownRefusal.{DownRefusal}
-use Rattle.adsc_downlink.specs.declared.refusal.DownWhy.{DownWhy}
-use Rattle.adsc_downlink.specs.declared.refusal.DownWhy.TheVariants as why
-
--- ---- refusals
-
-abbrev pub short_at : ℕ → DownRefusal
-short_at bit = record { bit = bit; why = why.Short }
-
-abbrev pub tag_at : ℕ → DownRefusal
-tag_at bit = record { bit = bit; why = why.Tag }
-
-abbrev pub value_at : ℕ → DownRefusal
-value_at bit = record { bit = bit; why = why.Value }
-
-abbrev pub many_at : ℕ → DownRefusal
-many_at bit = record { bit = bit; why = why.Many }
-
--- A group's refusal as a downlink's.
-abbrev pub as_why : GroupWhy → DownWhy
-as_why group_why.Short = why.Short
-as_why group_why.Tag = why.Tag
-
-abbrev pub as_refusal : GroupRefusal → DownRefusal
-as_refusal refusal = record { bit = refusal.bit; why = as_why refusal.why }
 
 -- ---- octets
 
@@ -59,7 +35,7 @@ octets_where (test ∷ tests) unread = do
 
 -- Whether an octet that passes the test stands next.
 abbrev pub begins : (ℕ → Bool) → Unread → Bool
-begins test unread = nat_le 8 (length unread.left) && test (number_of (take 8 unread.left))
+begins test unread = nat_le 8 (length unread.left) && test (number_spelled (take 8 unread.left))
 
 -- ---- reports
 
@@ -106,7 +82,7 @@ report_at tag unread = do
 unfoldable pub nack_at : Unread → Result (ItemData × Unread) DownRefusal
 nack_at unread =
     octets_where (item_tests 4) unread >>= λ octets.
-    if has_place (get_or octets.0 1 0) then
+    if names_octet (get_or octets.0 1 0) then
     (octet_at octets.1 >>= λ place. Ok (nack (get_or octets.0 0 0) (get_or octets.0 1 0) place.0, place.1))
     else Ok (nack (get_or octets.0 0 0) (get_or octets.0 1 0) 0, octets.1)
 
@@ -132,7 +108,7 @@ item_at unread = do
 -- What is wrong where more items than eight begin.
 abbrev pub ninth_at : Unread → DownRefusal
 ninth_at unread =
-    if nat_lt (length unread.left) 8 then short_at unread.at else if is_item_tag (number_of (take 8 unread.left)) then many_at unread.at else tag_at unread.at
+    if nat_lt (length unread.left) 8 then short_at unread.at else if is_item_tag (number_spelled (take 8 unread.left)) then many_at unread.at else tag_at unread.at
 
 -- Items up to the end, at most so many.
 unfoldable pub items_at : ℕ → Unread → Result (List ItemData) DownRefusal
@@ -146,10 +122,3 @@ downlink_at unread = do
   item ← item_at unread
   others ← items_at 7 item.1
   Ok (item.0 ∷ others)
-
--- What is read behind these values, with them in front.
-abbrev pub with_front : {A F : Type 0} → List A → Result (List A × Unread) F → Result (List A × Unread) F
-with_front front reading = reading >>= λ others. Ok (front ++ others.0, others.1)
-
-abbrev pub with_items : {A F : Type 0} → List A → Result (List A) F → Result (List A) F
-with_items front reading = reading >>= λ others. Ok (front ++ others)

@@ -1,7 +1,7 @@
 //! Reading the items of a downlink.
 
-ghost use Rattle.std.specs.Prelude.{◌≡◌, ℕ, ◌≤◌, ◌↔◌, List, map, length, take, nat_lt, if◌then◌else◌, IsTrue, IfOk, IsOkAnd, IsErrAnd, MatchResult};
-ghost use Rattle.bit_terms.specs.Octets.{octets_bits, number_of};
+ghost use Rattle.std.specs.Prelude.{◌≡◌, ◌+◌, ◌<◌, ◌≤◌, [], map, length, take, nat_lt, if◌then◌else◌, IsTrue, Ok, Err, IfOk, IfErr, OnOk, MatchResult};
+ghost use Rattle.bit_terms.specs.Octets.{octets_bits, number_spelled};
 ghost use Rattle.bit_terms.specs.Reading.{Gives, all_unread};
 ghost use Rattle.adsc_groups.specs.BasicView.{basic_data};
 ghost use Rattle.adsc_groups.specs.Groups.{is_group_tag as is_group_tag_of};
@@ -10,12 +10,13 @@ ghost use Rattle.arrayvec.specs.ArrayVec.{array_vec_len};
 ghost use Rattle.adsc_downlink.specs.Codes.{is_report_tag as is_report_tag_of, is_item_tag as is_item_tag_of, is_reason as is_reason_of, only};
 ghost use Rattle.adsc_downlink.specs.Encodings.{EncodesDownlink};
 ghost use Rattle.adsc_downlink.specs.Faults.{IsFirstDownlinkFault};
-ghost use Rattle.adsc_downlink.specs.declared.refusal.DownWhy.{DownWhy as Cause};
 ghost use Rattle.adsc_downlink.specs.ItemView.{report_group_data, report_data, item_data, items_data};
 ghost use Rattle.adsc_downlink.specs.Items.{ItemData};
 ghost use Rattle.adsc_downlink.specs.Reading.{octet_at, octet_where, begins, basic_at, tagged_group_at, groups_at, report_at, nack_at, number_at, body_at, item_at, ninth_at, downlink_at};
+ghost use Rattle.adsc_downlink.specs.declared.items.Items.{Items as ItemsValue};
+ghost use Rattle.adsc_downlink.specs.declared.refusal.DownRefusal.{DownRefusal as RefusalValue};
 
-use crate::encoding::has_place;
+use crate::encoding::names_octet;
 use crate::item::{Item, Nack};
 use crate::items::Items;
 use crate::refusal::{DownRefusal, DownWhy};
@@ -24,38 +25,62 @@ use adsc_bits::BitReader;
 use adsc_groups::{Basic, Group, decode_basic, decode_group};
 use arrayvec::ArrayVec;
 
-/// The items whose encoding the payload is, whatever its padding. The payload has at most 255 octets.
+/// The items whose encoding the payload is, whatever its padding. The payload has at most 255
+/// octets.
 ///
-/// Source: RTCA DO-258A / EUROCAE ED-100A; the limits and the first fault are this project's profile.
+/// Source: RTCA DO-258A / EUROCAE ED-100A; the limits and the first fault are this project's
+/// profile.
 ///
 /// # Errors
 ///
-/// The first fault from the left. `Short`: a field isn't wholly there, at its first bit; an empty payload is short at bit 0. `Tag`: where an
-/// item must or may begin, the octet is neither an item's tag nor, within a report, a group's. `Value`: a reason is 0 or above 13, or a fixed
-/// octet of a noncompliance is another. `Many`: a ninth item, or a ninth group of a report, at its tag.
+/// The first fault from the left. `Short`: a field isn't wholly there, at its first bit; an empty
+/// payload is short at bit 0. `Tag`: where an item must or may begin, the octet is neither an
+/// item's tag nor, within a report, a group's. `Value`: a reason is 0 or above 13, or a fixed octet
+/// of a noncompliance is another. `Many`: a ninth item, or a ninth group of a report, at its tag.
 pub fn decode_downlink(payload: &[u8]) -> Result<Items, DownRefusal>
     requires { length payload.now ≤ 255 }
     // What is read is encoded so, and what is encoded so is read.
-    ensures found { IfOk result (λ items. EncodesDownlink (items_data items) (octets_bits payload.now)) }
-    ensures only { (items : List ItemData) → EncodesDownlink items (octets_bits payload.now) → IsOkAnd result (λ r. items_data r ≡ items) }
-
-    // A refusal is the first fault.
-    ensures fault { (bit : ℕ) (cause : Cause) → IsErrAnd result (λ e. e ≡ record { bit = bit; why = cause })
-        ↔ IsFirstDownlinkFault (octets_bits payload.now) bit cause }
-
-    // All of this as one function of the payload.
-    ensures exact { MatchResult result (λ items. downlink_at (all_unread payload.now) ≡ Ok (items_data items)) (λ e. downlink_at (all_unread payload.now) ≡ Err e) }
+    ensures found { IfOk result (λ items.
+        EncodesDownlink (items_data items) (octets_bits payload.now)) }
+    ensures only { (items : ItemsValue) →
+        EncodesDownlink (items_data items) (octets_bits payload.now) → result ≡ Ok items }
+    // What is refused has this first fault, and what has a first fault is refused with it.
+    ensures fault { IfErr result (λ r. IsFirstDownlinkFault (octets_bits payload.now) r.bit r.why) }
+    ensures refused { (r : RefusalValue) →
+        IsFirstDownlinkFault (octets_bits payload.now) r.bit r.why → result ≡ Err r }
 {
-    items_of(payload)
+    let mut list = ArrayVec::new();
+    decode_items(payload, &mut list)?;
+    Ok(Items { list })
+}
+
+/// Reads a payload as [`decode_downlink`] does, into a list that is lent: whoever reads many
+/// payloads needs no list for each. What the list held before is dropped.
+///
+/// # Errors
+///
+/// Those of `decode_downlink`. The list then holds nothing that can be relied on.
+pub fn decode_items(payload: &[u8], list: &mut ArrayVec<Item, 8>) -> Result<(), DownRefusal>
+    requires { length payload.now ≤ 255 }
+    ensures found { OnOk result
+        (EncodesDownlink (map item_data list.new.items) (octets_bits payload.now)) }
+    ensures fault { IfErr result (λ r. IsFirstDownlinkFault (octets_bits payload.now) r.bit r.why) }
+    ensures refused { (r : RefusalValue) →
+        IsFirstDownlinkFault (octets_bits payload.now) r.bit r.why → result ≡ Err r }
+{
+    list.clear();
+    read_items(payload, list)
 }
 
 // Items up to the end of the payload.
-fn items_of(payload: &[u8]) -> Result<Items, DownRefusal>
-    requires { length payload.now ≤ 255 }
-    ensures exact { MatchResult result (λ items. downlink_at (all_unread payload.now) ≡ Ok (items_data items)) (λ e. downlink_at (all_unread payload.now) ≡ Err e) }
+fn read_items(payload: &[u8], list: &mut ArrayVec<Item, 8>) -> Result<(), DownRefusal>
+    requires few { length payload.now ≤ 255 }
+    requires empty { list.old.items ≡ [] }
+    ensures exact { MatchResult result
+        (λ _. downlink_at (all_unread payload.now) ≡ Ok (map item_data list.new.items))
+        (λ e. downlink_at (all_unread payload.now) ≡ Err e) }
 {
     let mut from = BitReader::new(payload);
-    let mut list = ArrayVec::new();
     list.push(decode_item(&mut from)?);
     while !from.at_end() {
         if list.len() == 8 {
@@ -63,7 +88,7 @@ fn items_of(payload: &[u8]) -> Result<Items, DownRefusal>
         }
         list.push(decode_item(&mut from)?);
     }
-    Ok(Items { list })
+    Ok(())
 }
 
 #[tactic(auto, unfolding(crate::specs::Reading::item_at))]
@@ -102,11 +127,12 @@ fn decode_body(place: u32, tag: u8, from: &mut BitReader) -> Result<Item, DownRe
 // A reason, and behind some reasons the place of the faulty octet.
 #[tactic(auto, unfolding(crate::specs::Reading::nack_at, crate::specs::Reading::octets_where))]
 fn decode_nack(from: &mut BitReader) -> Result<Nack, DownRefusal>
-    ensures { Gives (λ k. ItemData.nack k.n k.reason k.octet) (λ e. e) result from.new (nack_at from.old) }
+    ensures { Gives (λ k. ItemData.nack k.n k.reason k.octet) (λ e. e) result from.new
+        (nack_at from.old) }
 {
     let n = octet(from)?;
     let reason = decode_reason(from)?;
-    if has_place(reason) {
+    if names_octet(reason) {
         let octet = octet(from)?;
         return Ok(Nack { n, reason, octet });
     }
@@ -157,7 +183,8 @@ fn decode_report_basic(from: &mut BitReader) -> Result<Basic, DownRefusal>
 
 // Groups while a group's tag stands next.
 fn decode_groups(from: &mut BitReader) -> Result<ArrayVec<ReportGroup, 8>, DownRefusal>
-    ensures gives { Gives (λ groups. map report_group_data groups.items) (λ e. e) result from.new (groups_at 8 from.old) }
+    ensures gives { Gives (λ groups. map report_group_data groups.items) (λ e. e) result from.new
+        (groups_at 8 from.old) }
     ensures few { IfOk result (λ groups. array_vec_len groups ≤ 8) }
 {
     let mut groups = ArrayVec::new();
@@ -247,7 +274,8 @@ fn ninth_item(from: &BitReader) -> DownRefusal
 
 /// The octet that stands next, which is not taken.
 fn next_octet(from: &BitReader) -> Option<u8>
-    ensures { result ≡ (if nat_lt (length from.now.left) 8 then None else Some (number_of (take 8 from.now.left))) }
+    ensures { result ≡ (if nat_lt (length from.now.left) 8 then None
+        else Some (number_spelled (take 8 from.now.left))) }
 {
     let mut ahead = from.fork();
     match ahead.take(8) {

@@ -1,11 +1,12 @@
 //! Writing the items of a downlink.
 
-ghost use Rattle.std.specs.Prelude.{◌≡◌, ◌+◌, ◌*◌, ◌≤◌, [], ◌∷◌, ◌++◌, length, flat_map, map, IsTrue, if◌then◌else◌};
+ghost use Rattle.std.specs.Prelude.{◌≡◌, ◌+◌, ◌*◌, ◌%◌, ◌≤◌, ◌++◌, length, flat_map, map, IsTrue, if◌then◌else◌};
 ghost use Rattle.bit_terms.specs.Octets.{octets_bits};
 ghost use Rattle.adsc_bits.specs.Packing.{octets_of};
 ghost use Rattle.arrayvec.specs.ArrayVec.{array_vec_len};
 ghost use Rattle.adsc_groups.specs.GroupView.{group_data};
-ghost use Rattle.adsc_downlink.specs.Codes.{has_place as has_place_of, is_reason, is_place_of};
+ghost use Rattle.contract_rules.specs.Reasons.{names_octet as names_octet_of};
+ghost use Rattle.adsc_downlink.specs.Codes.{is_reason, is_place_of};
 ghost use Rattle.adsc_downlink.specs.Encodings.{EncodesEach, EncodesReport, EncodesItem, EncodesDownlink};
 ghost use Rattle.adsc_downlink.specs.Items.{ItemData, tagged_group_bits, report_bits, item_bits, downlink_bits};
 ghost use Rattle.adsc_downlink.specs.ItemView.{report_group_data, report_data, item_data, items_data};
@@ -26,7 +27,8 @@ pub fn downlink_size(items: &Items) -> u32
     items_size(items.list.as_slice())
 }
 
-/// The payload that carries the items: their one encoding whose padding is zeros. It has at most 255 octets, as `downlink_size` tells.
+/// The payload that carries the items: their one encoding whose padding is zeros. It has at most
+/// 255 octets, as `downlink_size` tells.
 ///
 /// Source: RTCA DO-258A / EUROCAE ED-100A; the limit and the padding are this project's profile.
 #[tactic(auto, unfolding(crate::specs::Items::downlink_bits))]
@@ -34,27 +36,27 @@ pub fn encode_downlink(items: &Items) -> ArrayVec<u8, 255>
     requires { length (downlink_bits (items_data items.now)) ≤ 2040 }
     ensures bits { octets_bits result.items ≡ downlink_bits (items_data items.now) }
     ensures octets { result.items ≡ octets_of (downlink_bits (items_data items.now)) }
-
     // It is an encoding of the items, so reading it gives the items back.
     ensures encodes { EncodesDownlink (items_data items.now) (octets_bits result.items) }
 {
-    // The size says that the items are whole octets.
-    let _octets = downlink_size(items);
     let mut out = BitWriter::new();
     encode_items(items.list.as_slice(), &mut out);
     out.finish()
 }
 
-/// An acknowledgement and the report that follows it at once. They fit a payload.
-pub fn acknowledged(n: u8, report: Report) -> Items
-    ensures items { result.list.items ≡ Item.Ack n ∷ Item.Report report ∷ [] }
-    ensures fits { length (downlink_bits (items_data result)) ≤ 1256 }
+/// Writes one item behind what was written before, with its padding zero. There is room for it.
+/// Items that are written one behind the other are a payload as `encode_downlink` gives it, and no
+/// list of them is needed.
+///
+/// Source: RTCA DO-258A / EUROCAE ED-100A; zeros as padding are this project's profile.
+pub fn encode_item(item: &Item, out: &mut BitWriter)
+    requires { length out.old + length (item_bits (item_data item.now)) ≤ 2040 }
+    ensures bits { out.new ≡ out.old ++ item_bits (item_data item.now) }
+    // An item is whole octets, so what is written can be finished behind it.
+    ensures whole { length (item_bits (item_data item.now)) % 8 ≡ 0 }
+    ensures encodes { EncodesItem (item_data item.now) (item_bits (item_data item.now)) }
 {
-    let report = Item::Report(report);
-    let _octets = item_size(&report);
-    let mut items = Items::one(Item::Ack { n });
-    items.push(report);
-    items
+    encode_kind(item, out);
 }
 
 // ---- sizes
@@ -86,14 +88,15 @@ fn item_size(item: &Item) -> u32
 }
 
 fn nack_size(nack: &Nack) -> u32
-    ensures { result ≡ (if has_place_of nack.now.reason then 4 else 3) }
+    ensures { result ≡ (if names_octet_of nack.now.reason then 4 else 3) }
 {
-    if has_place(nack.reason) { 4 } else { 3 }
+    if names_octet(nack.reason) { 4 } else { 3 }
 }
 
 fn groups_size(groups: &[ReportGroup]) -> u32
     requires { length groups.now ≤ 8 }
-    ensures exact { 8 * result ≡ length (flat_map tagged_group_bits (map report_group_data groups.now)) }
+    ensures exact { 8 * result
+        ≡ length (flat_map tagged_group_bits (map report_group_data groups.now)) }
     ensures within { result ≤ 144 }
 {
     let mut size = 0;
@@ -111,8 +114,8 @@ fn tagged_group_size(group: &Group) -> u32
 }
 
 /// Whether the place of the faulty octet stands behind this reason.
-pub(crate) fn has_place(reason: u8) -> bool
-    ensures { result ≡ has_place_of reason }
+pub(crate) fn names_octet(reason: u8) -> bool
+    ensures { result ≡ names_octet_of reason }
 {
     reason == 1 || reason == 2 || reason == 7
 }
@@ -122,15 +125,18 @@ pub(crate) fn has_place(reason: u8) -> bool
 fn encode_items(items: &[Item], out: &mut BitWriter)
     requires { length out.old + length (flat_map item_bits (map item_data items.now)) ≤ 2040 }
     ensures bits { out.new ≡ out.old ++ flat_map item_bits (map item_data items.now) }
-    ensures encodes { EncodesEach EncodesItem (map item_data items.now) (flat_map item_bits (map item_data items.now)) }
+    ensures whole { length (flat_map item_bits (map item_data items.now)) % 8 ≡ 0 }
+    ensures encodes { EncodesEach EncodesItem (map item_data items.now)
+        (flat_map item_bits (map item_data items.now)) }
 {
     for item in items {
         encode_item(item, out);
     }
 }
 
+// Writes an item by its kind.
 #[tactic(auto, unfolding(crate::specs::Items::item_bits))]
-fn encode_item(item: &Item, out: &mut BitWriter)
+fn encode_kind(item: &Item, out: &mut BitWriter)
     requires { length out.old + length (item_bits (item_data item.now)) ≤ 2040 }
     ensures bits { out.new ≡ out.old ++ item_bits (item_data item.now) }
     ensures encodes { EncodesItem (item_data item.now) (item_bits (item_data item.now)) }
@@ -150,9 +156,10 @@ fn encode_nack(n: u8, reason: u8, octet: u8, out: &mut BitWriter)
     requires due { IsTrue (is_place_of reason octet) }
     requires room { length out.old + length (item_bits (ItemData.nack n reason octet)) ≤ 2040 }
     ensures bits { out.new ≡ out.old ++ item_bits (ItemData.nack n reason octet) }
-    ensures encodes { EncodesItem (ItemData.nack n reason octet) (item_bits (ItemData.nack n reason octet)) }
+    ensures encodes { EncodesItem (ItemData.nack n reason octet)
+        (item_bits (ItemData.nack n reason octet)) }
 {
-    if has_place(reason) {
+    if names_octet(reason) {
         put_octets(&[4, n, reason, octet], out);
     } else {
         put_octets(&[4, n, reason], out);
@@ -163,7 +170,8 @@ fn encode_nack(n: u8, reason: u8, octet: u8, out: &mut BitWriter)
 fn encode_report(report: &Report, out: &mut BitWriter)
     requires { length out.old + length (report_bits (report_data report.now)) ≤ 2040 }
     ensures bits { out.new ≡ out.old ++ report_bits (report_data report.now) }
-    ensures encodes { EncodesReport (report_data report.now) (report_bits (report_data report.now)) }
+    ensures encodes { EncodesReport (report_data report.now)
+        (report_bits (report_data report.now)) }
 {
     out.put(report.tag as u32, 8);
     encode_basic(&report.basic, out);
@@ -171,7 +179,8 @@ fn encode_report(report: &Report, out: &mut BitWriter)
 }
 
 fn encode_groups(groups: &[ReportGroup], out: &mut BitWriter)
-    requires { length out.old + length (flat_map tagged_group_bits (map report_group_data groups.now)) ≤ 2040 }
+    requires { length out.old
+        + length (flat_map tagged_group_bits (map report_group_data groups.now)) ≤ 2040 }
     ensures { out.new ≡ out.old ++ flat_map tagged_group_bits (map report_group_data groups.now) }
 {
     for group in groups {

@@ -14,7 +14,8 @@ pub struct Nack {
     pub n: u8,
     /// Why it is refused, 1 to 13.
     pub reason: u8,
-    /// The place of the faulty octet, counted from 1, for reasons 1, 2 and 7; 0 for the other reasons.
+    /// The place of the faulty octet, counted from 1, for reasons 1, 2 and 7; 0 for the other
+    /// reasons.
     pub octet: u8,
     ghost reason_known: { IsTrue (is_reason reason) },
     ghost octet_due: { IsTrue (is_place_of reason octet) },

@@ -1,7 +1,7 @@
 //! Why a payload is no downlink.
 
 ghost use Rattle.std.specs.Prelude.{◌≡◌};
-ghost use Rattle.adsc_downlink.specs.Reading.{short_at, as_refusal};
+ghost use Rattle.adsc_downlink.specs.Refusals.{short_at, as_refusal};
 
 use adsc_bits::Short;
 use adsc_groups::{GroupRefusal, GroupWhy};
@@ -22,7 +22,8 @@ pub enum DownWhy {
 /// What is wrong with a payload first, from the left, and where.
 #[derive(Clone, Copy, Debug, PartialEq, Eq)]
 pub struct DownRefusal {
-    /// The place of the first bit of the field that is wrong, counted from 0 at the first bit of the payload.
+    /// The place of the first bit of the field that is wrong, counted from 0 at the first bit of
+    /// the payload.
     pub bit: u32,
     pub why: DownWhy,
 }

@@ -7,16 +7,19 @@ ghost use Rattle.adsc_downlink.specs.Codes.{is_report_tag};
 use adsc_groups::{Basic, Group};
 use arrayvec::ArrayVec;
 
-/// A group in the list of a report: a list of fixed capacity asks for a default, and a `Group` has none.
+/// A group in the list of a report: a list of fixed capacity asks for a default, and a `Group` has
+/// none.
 #[derive(Clone, Copy, Debug, PartialEq, Eq)]
 pub struct ReportGroup(pub Group);
 
-/// A report. Its groups may stand in any order and several times; an aircraft sends each at most once, by rising tag.
+/// A report. Its groups may stand in any order and several times; an aircraft sends each at most
+/// once, by rising tag.
 ///
 /// Source: RTCA DO-258A / EUROCAE ED-100A, ARINC 745.
 #[derive(Debug, PartialEq, Eq, Drop)]
 pub struct Report {
-    /// What the report answers: basic 7, emergency 9, lateral event 10, vertical rate event 18, altitude event 19, waypoint event 20.
+    /// What the report answers: basic 7, emergency 9, lateral event 10, vertical rate event 18,
+    /// altitude event 19, waypoint event 20.
     pub tag: u8,
     /// Where the aircraft is, and when.
     pub basic: Basic,
@@ -46,7 +49,8 @@ impl Report {
         requires { array_vec_len self.old.groups < 8 }
         ensures tag { self.new.tag ≡ self.old.tag }
         ensures basic { self.new.basic ≡ self.old.basic }
-        ensures groups { self.new.groups.items ≡ self.old.groups.items ++ record { 0 = group } ∷ [] }
+        ensures groups { self.new.groups.items
+            ≡ self.old.groups.items ++ record { 0 = group } ∷ [] }
     {
         self.groups.push(ReportGroup(group));
     }

@@ -94,7 +94,8 @@ const EACH: [u8; 105] = [
     0x00, 0x00, 0x20, 0x00, 0x38, 0x3f, 0x9f, 0x03, 0xff,
 ];
 
-// The place of the first field that is cut where so many of these octets are left; nothing where whole items are left.
+// The place of the first field that is cut where so many of these octets are left; nothing where
+// whole items are left.
 const CUTS: [Option<u32>; 105] = [
     Some(0),
     Some(8),
@@ -225,14 +226,6 @@ fn a_payload_that_is_cut_is_short(rt: HostRuntime) {
         });
         assert_eq!(rt; found, due, "{count} octets");
     }
-}
-
-#[test]
-fn an_acknowledgement_and_a_report_are_one_payload(rt: HostRuntime) {
-    let items = acknowledged(1, Report::new(7, basic()));
-    let payload = encode_downlink(&items);
-    assert_eq!(rt; payload.as_slice().len(), 13);
-    assert_eq!(rt; decode_downlink(payload.as_slice()), Ok(items));
 }
 
 // Payloads, and what is wrong with each first.

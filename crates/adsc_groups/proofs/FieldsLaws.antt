@@ -1,11 +1,11 @@
 -- The laws of tables of fields: what reading gives is what is encoded, and a refusal is the first cut.
 use Rattle.std.proofs.Common.{◌≡◌, ℕ, ◌+◌, ◌-◌, ◌^◌, ◌<◌, ◌≤◌, ℤ, pos, Bool, List, [], ◌∷◌, ◌++◌, length, take, drop, Ok, Err, refl, sym, ap, ap₂, ◌∙◌, subst, ⊎_elim, arith, append_assoc, length-append, length-drop}
 use Rattle.bit_terms.specs.Bits.{unsigned_bits}
-use Rattle.bit_terms.specs.Octets.{number_of}
+use Rattle.bit_terms.specs.Octets.{number_spelled}
 use Rattle.bit_terms.specs.Signed.{signed_bits, FitsSigned, signed_of}
 use Rattle.bit_terms.specs.Reading.{Unread, after, taken, taken_signed, ◌>>=◌}
 use Rattle.bit_terms.proofs.BitsLaws.{length-unsigned_bits}
-use Rattle.bit_terms.proofs.OctetsLaws.{number_of-lt, unsigned_bits-number_of}
+use Rattle.bit_terms.proofs.OctetsLaws.{number_spelled-lt, unsigned_bits-number_spelled}
 use Rattle.bit_terms.proofs.SignedLaws.{length-signed_bits}
 use Rattle.bit_terms.proofs.ReadingLaws.{bind_ok, bind_err, ok_same, ok_is_no_err, taken_whole, taken_short, taken_takes, taken_again, taken_refused, taken_signed_takes, taken_signed_again, taken_signed_refused}
 use Rattle.adsc_groups.specs.Fields.{Field, width_of, size_of, EncodesField, Encodes, FitFields, fields_bits, IsFirstCut, field_at, fields_at}
@@ -69,10 +69,10 @@ field_again (signed width) values front rest at wide encoded =
     ∙ ap (λ reading. reading >>= λ z. Ok (z.0 ∷ [], z.1)) (taken_signed_again width encoded.0 at rest wide encoded.1)
     ∙ ap (λ xs. Ok (xs, record { left = rest; at = at + width })) (sym encoded.2)
 field_again (padding width) values front rest at wide encoded =
-    let spelled : front ≡ unsigned_bits width (number_of front) = sym (unsigned_bits-number_of front) ∙ ap (λ w. unsigned_bits w (number_of front)) encoded.1 in
-    let fits : number_of front < 2 ^ width = subst (λ w. number_of front < 2 ^ w) encoded.1 (number_of-lt front) in
+    let spelled : front ≡ unsigned_bits width (number_spelled front) = sym (unsigned_bits-number_spelled front) ∙ ap (λ w. unsigned_bits w (number_spelled front)) encoded.1 in
+    let fits : number_spelled front < 2 ^ width = subst (λ w. number_spelled front < 2 ^ w) encoded.1 (number_spelled-lt front) in
     ap (λ bits. field_at (padding width) (record { left = bits ++ rest; at = at })) spelled
-    ∙ ap (λ reading. reading >>= λ n. Ok ([], n.1)) (taken_again width (number_of front) at rest fits)
+    ∙ ap (λ reading. reading >>= λ n. Ok ([], n.1)) (taken_again width (number_spelled front) at rest fits)
     ∙ ap (λ xs. Ok (xs, record { left = rest; at = at + width })) (sym encoded.0)
 
 -- A field is refused only where it is cut, at its first bit.
@@ -92,8 +92,8 @@ field_cut (padding width) old few = rw (taken_short width old few) refl
 
 -- A field that is wholly there is read.
 field_whole : (field : Field) (old : Unread) → width_of field ≤ length old.left → (value : List ℤ) × (field_at field old ≡ Ok (value, after (width_of field) old))
-field_whole (number width) old enough = (pos (number_of (take width old.left)) ∷ [], rw (taken_whole width old enough) refl)
-field_whole (signed width) old enough = (signed_of width (number_of (take width old.left)) ∷ [], rw (taken_whole width old enough) refl)
+field_whole (number width) old enough = (pos (number_spelled (take width old.left)) ∷ [], rw (taken_whole width old enough) refl)
+field_whole (signed width) old enough = (signed_of width (number_spelled (take width old.left)) ∷ [], rw (taken_whole width old enough) refl)
 field_whole (padding width) old enough = ([], rw (taken_whole width old enough) refl)
 
 -- ---- a table of fields
@@ -220,11 +220,3 @@ canonical_encodes (signed width ∷ fields) values fits = canonical_signed width
 -- It is as long as the fields together.
 pub length-fields_bits : (fields : List Field) (values : List ℤ) → FitFields fields values → length (fields_bits fields values) ≡ size_of fields
 length-fields_bits fields values fits = length-encoding fields values (fields_bits fields values) (canonical_encodes fields values fits)
-
--- Bits that begin with encodings of two lists of values begin with one encoding: the values are the same, and so is what follows.
-pub same_beginning : (fields : List Field) (a b : List ℤ) (x y rest others : List Bool) → AllWide fields → Encodes fields a x → Encodes fields b y → x ++ rest ≡ y ++ others
-    → (a ≡ b) × (rest ≡ others)
-same_beginning fields a b x y rest others wide encodes_a encodes_b same =
-    let one = ok_same {F = ℕ} (a, record { left = rest; at = 0 + size_of fields }) (b, record { left = others; at = 0 + size_of fields })
-    (sym (fields_again fields a x rest 0 wide encodes_a) ∙ ap (λ left. fields_at fields (record { left = left; at = 0 })) same ∙ fields_again fields b y others 0 wide encodes_b) in
-    (ap (λ p. p.0) one, ap (λ p. p.1.left) one)

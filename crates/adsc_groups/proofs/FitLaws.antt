@@ -1,5 +1,5 @@
 -- The types hold only values that fit.
-use Rattle.std.proofs.Common.{refl}
+use Rattle.std.proofs.Common.{ℕ, zero, suc, ◌<◌, [], ◌∷◌, get_or, refl, arith}
 use Rattle.adsc_groups.specs.Fields.{FitFields}
 use Rattle.adsc_groups.specs.Basic.{basic_fields, basic_values}
 use Rattle.adsc_groups.specs.BasicView.{basic_data}
@@ -77,3 +77,16 @@ group_fits (groups.Airframe a) = (refl, (_, _, a.address_fits, refl, refl))
 group_fits (groups.Intermediate i) =
     (refl, (_, _, i.distance_fits, refl, (_, _, i.invalid_fits, refl, (_, _, i.angle_fits, refl, (_, _, i.alt_fits, refl, (_, _, i.eta_fits, refl, refl))))))
 group_fits (groups.Fixed f) = (refl, (_, _, f.lat_fits, refl, (_, _, f.lon_fits, refl, (_, _, f.alt_fits, refl, (_, _, f.eta_fits, refl, refl)))))
+
+-- Each of eight numbers is below a limit, and so is the number 0 behind them.
+pub eight_below : (limit a b c d e f g h : ℕ) → a < limit → b < limit → c < limit → d < limit → e < limit → f < limit → g < limit → h < limit
+    → (i : ℕ) → get_or (a ∷ b ∷ c ∷ d ∷ e ∷ f ∷ g ∷ h ∷ []) i 0 < limit
+eight_below limit a b c d e f g h la lb lc ld le lf lg lh zero = la
+eight_below limit a b c d e f g h la lb lc ld le lf lg lh (suc zero) = lb
+eight_below limit a b c d e f g h la lb lc ld le lf lg lh (suc (suc zero)) = lc
+eight_below limit a b c d e f g h la lb lc ld le lf lg lh (suc (suc (suc zero))) = ld
+eight_below limit a b c d e f g h la lb lc ld le lf lg lh (suc (suc (suc (suc zero)))) = le
+eight_below limit a b c d e f g h la lb lc ld le lf lg lh (suc (suc (suc (suc (suc zero))))) = lf
+eight_below limit a b c d e f g h la lb lc ld le lf lg lh (suc (suc (suc (suc (suc (suc zero)))))) = lg
+eight_below limit a b c d e f g h la lb lc ld le lf lg lh (suc (suc (suc (suc (suc (suc (suc zero))))))) = lh
+eight_below limit a b c d e f g h la lb lc ld le lf lg lh (suc (suc (suc (suc (suc (suc (suc (suc i)))))))) = omega (arith, la)

@@ -4,3 +4,4 @@ pub mod FieldsRead
 pub mod FitLaws
 pub mod GroupLaws
 pub mod WritingLaws
+pub mod SameValues

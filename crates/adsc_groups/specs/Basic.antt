@@ -22,6 +22,6 @@ basic_fields = signed 21 ∷ signed 21 ∷ signed 16 ∷ number 15 ∷ padding 2
 abbrev pub basic_values : BasicData → List ℤ
 basic_values basic = basic.lat ∷ basic.lon ∷ basic.alt ∷ pos basic.sec ∷ pos basic.tcas ∷ pos basic.accuracy ∷ pos basic.redundancy ∷ []
 
--- The canonical encoding of the basic basic.
+-- The canonical encoding of the basic data: padding is zeros.
 unfoldable pub basic_bits : BasicData → List Bool
 basic_bits basic = fields_bits basic_fields (basic_values basic)

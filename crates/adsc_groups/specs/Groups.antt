@@ -1,7 +1,7 @@
 -- The report groups by their tags (RTCA DO-258A / EUROCAE ED-100A).
-use Rattle.std.specs.Prelude.{ℕ, ℤ, Bool, List, ◌||◌, ◌&&◌, ◌==◌, nat_le, IsTrue, Result, Ok, Err, if◌then◌else◌}
+use Rattle.std.specs.Prelude.{◌≡◌, ℕ, ℤ, Bool, false, List, ◌||◌, ◌&&◌, ◌==◌, ◌⊎◌, nat_le, IsTrue, Result, Ok, Err, if◌then◌else◌}
 use Rattle.bit_terms.specs.Reading.{Unread, refused_as, ◌>>=◌}
-use Rattle.adsc_groups.specs.Fields.{Field, Encodes, FitFields, fields_bits, fields_at}
+use Rattle.adsc_groups.specs.Fields.{Field, Encodes, FitFields, WereRead, IsFirstCut, fields_bits, fields_at}
 use Rattle.adsc_groups.specs.Tables.{flight_id_fields, route_fields, motion_fields, weather_fields, airframe_fields, intermediate_fields, fixed_fields}
 use Rattle.adsc_groups.specs.declared.refusal.GroupWhy.TheVariants as why
 use Rattle.adsc_groups.specs.declared.refusal.GroupRefusal.{GroupRefusal}
@@ -36,7 +36,19 @@ EncodesGroup group bits = IsGroupTag group.tag × Encodes (group_fields group.ta
 unfoldable pub group_bits : GroupData → List Bool
 group_bits group = fields_bits (group_fields group.tag) group.values
 
--- Reading the data of the group with this tag.
+-- ---- reading
+
+-- A group with this tag was read: the bits that are no longer left encode its data, whatever the padding.
+abbrev pub GroupWasRead : ℕ → GroupData → Unread → Unread → Type 0
+GroupWasRead tag group old new = IsGroupTag tag × (group.tag ≡ tag) × WereRead (group_fields tag) group.values old new
+
+-- No group with this tag is wholly there: the tag is no group's, or the first field that isn't wholly there begins at the refusal's place.
+abbrev pub IsGroupRefusal : ℕ → Unread → GroupRefusal → Type 0
+IsGroupRefusal tag unread refusal =
+    ((is_group_tag tag ≡ false) × (refusal ≡ record { bit = unread.at; why = why.Tag }))
+    ⊎ (IsGroupTag tag × (refusal.why ≡ why.Short) × IsFirstCut (group_fields tag) unread refusal.bit)
+
+-- Reading the data of the group with this tag, as a function.
 unfoldable pub group_at : ℕ → Unread → Result (GroupData × Unread) GroupRefusal
 group_at tag unread =
     if is_group_tag tag then

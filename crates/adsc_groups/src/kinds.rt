@@ -1,8 +1,9 @@
 //! The groups that a report can carry behind its basic data.
 //!
-//! Source for all of them: RTCA DO-258A / EUROCAE ED-100A, ARINC 745. A field holds each number of its bits.
+//! Source for all of them: RTCA DO-258A / EUROCAE ED-100A, ARINC 745. A field holds each number of
+//! its bits.
 
-ghost use Rattle.std.specs.Prelude.{ℕ, ◌^◌, ◌<◌, slice_index};
+ghost use Rattle.std.specs.Prelude.{◌≡◌, ℕ, ◌^◌, ◌<◌, length, slice_index};
 ghost use Rattle.bit_terms.specs.Signed.{FitsSigned};
 
 mod coding;
@@ -16,8 +17,10 @@ pub(crate) use coding::{
 /// Flight identification, group 12.
 #[derive(Clone, Copy, Debug, PartialEq, Eq)]
 pub struct FlightId {
-    /// Eight characters as codes of six bits: `A` to `Z` are 1 to 26, space is 32, `0` to `9` are 48 to 57.
+    /// Eight characters as codes of six bits: `A` to `Z` are 1 to 26, space is 32, `0` to `9` are
+    /// 48 to 57.
     pub codes: [u8; 8],
+    ghost eight: { length codes ≡ 8 },
     ghost six_bits: { (i : ℕ) → slice_index codes i < 64 },
 }
 

@@ -17,7 +17,8 @@ pub enum GroupWhy {
 /// What is wrong with a group, and where.
 #[derive(Clone, Copy, Debug, PartialEq, Eq)]
 pub struct GroupRefusal {
-    /// The place of the first bit of the field that isn't wholly there, or the place where the group's data would begin.
+    /// The place of the first bit of the field that isn't wholly there, or the place where the
+    /// group's data would begin.
     pub bit: u32,
     pub why: GroupWhy,
 }

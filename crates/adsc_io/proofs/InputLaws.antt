@@ -1,17 +1,17 @@
 -- The laws of the lines of an input that a newline ends.
-use Rattle.std.proofs.Common.{◌≡◌, ◌≢◌, ℕ, zero, suc, ◌+◌, ◌-◌, ◌<◌, ◌≤◌, ◌⊎◌, inl, inr, true, false, cond, eqb, List, [], ◌∷◌, ◌++◌, length, take, drop, get_or, sym, ap, ◌∙◌, refl, subst, arith, ne_eqb}
+use Rattle.std.proofs.Common.{◌≡◌, ◌≢◌, ℕ, zero, suc, ◌+◌, ◌-◌, ◌<◌, ◌≤◌, ◌⊎◌, inl, inr, true, false, cond, eqb, List, [], ◌∷◌, ◌++◌, length, take, drop, get_or, sym, ap, ◌∙◌, refl, subst, append_assoc, arith, ne_eqb}
 use Rattle.std.specs.List.{onto_first}
 use Rattle.std.proofs.lemmas.Bool.{cases_Bool}
 use Rattle.std.proofs.lemmas.List.{take-append-drop, get_or-drop, length-drop}
-use Rattle.adsc_io.specs.Lines.{newline, script_lines}
+use Rattle.adsc_io.specs.Lines.{newline, script_lines, IsFront}
 use Rattle.adsc_io.proofs.LinesLaws.{script_lines-none}
 use Rattle.adsc_io.specs.Inputs.{onto_whole, whole_lines}
 
 -- these bytes end with a newline, if there are any
-abbrev pub EndsWhole : List ℕ → Type 0
-EndsWhole [] = Unit {0}
-EndsWhole (byte ∷ []) = byte ≡ newline
-EndsWhole (byte ∷ next ∷ bytes) = EndsWhole (next ∷ bytes)
+abbrev pub EndsWithNewline : List ℕ → Type 0
+EndsWithNewline [] = Unit {0}
+EndsWithNewline (byte ∷ []) = byte ≡ newline
+EndsWithNewline (byte ∷ next ∷ bytes) = EndsWithNewline (next ∷ bytes)
 
 -- bytes without a newline have no whole line
 no_newline : (bytes : List ℕ) → ((k : ℕ) → k < length bytes → get_or bytes k 0 ≢ newline) → whole_lines bytes ≡ []
@@ -26,7 +26,7 @@ onto_some byte [] some = absurd (some refl)
 onto_some byte (line ∷ lines) some = refl
 
 -- the lines of bytes that end with a newline are the whole lines of these bytes and of any that follow without a newline
-pub whole_lines-front : (front rest : List ℕ) → EndsWhole front → whole_lines rest ≡ [] → script_lines front ≡ whole_lines (front ++ rest)
+pub whole_lines-front : (front rest : List ℕ) → EndsWithNewline front → whole_lines rest ≡ [] → script_lines front ≡ whole_lines (front ++ rest)
 whole_lines-front [] rest ends none = sym none
 whole_lines-front (byte ∷ []) rest ends none = elim (cases_Bool (eqb byte newline)) [
   | inl is ↦ at_newline is
@@ -55,7 +55,7 @@ whole_lines-front (byte ∷ next ∷ bytes) rest ends none = with_byte byte next
     ]
 
 -- bytes up to a place whose last byte is a newline end with it
-ends_at : (bytes : List ℕ) (end : ℕ) → end ≤ length bytes → (end ≡ 0) ⊎ (get_or bytes (end - 1) 0 ≡ newline) → EndsWhole (take end bytes)
+ends_at : (bytes : List ℕ) (end : ℕ) → end ≤ length bytes → (end ≡ 0) ⊎ (get_or bytes (end - 1) 0 ≡ newline) → EndsWithNewline (take end bytes)
 ends_at bytes zero within ended = tt
 ends_at [] (suc end) within ended = tt
 ends_at (byte ∷ bytes) (suc zero) within (inl none) = absurd (omega (arith, none))
@@ -80,3 +80,7 @@ whole_lines-at bytes end within ended unbroken =
   where
     behind : (k : ℕ) → k < length (drop end bytes) → get_or (drop end bytes) k 0 ≢ newline
     behind k below = subst (λ b. b ≢ newline) (sym (get_or-drop end bytes k 0)) (unbroken (end + k) (omega arith) (omega (arith, below, length-drop end bytes)))
+
+-- the beginning of a beginning is one
+pub front_of_front : (front middle bytes : List ℕ) → IsFront front middle → IsFront middle bytes → IsFront front bytes
+front_of_front front middle bytes (behind, first) (rest, second) = (behind ++ rest, second ∙ ap (λ bs. bs ++ rest) first ∙ append_assoc front behind rest)

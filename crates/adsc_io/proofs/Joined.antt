@@ -1,10 +1,10 @@
 -- One read after another, and one write after another, where the bytes are told.
-use Rattle.std.proofs.Common.{ℕ, ◌+◌, ◌-◌, ◌<◌, ◌≤◌, List, [], ◌++◌, length, take, drop, sym, ◌∙◌, ap, refl, subst}
-use Rattle.std.proofs.Math.Seq.{take-add}
+use Rattle.std.proofs.Common.{ℕ, ◌+◌, ◌-◌, ◌<◌, ◌≤◌, List, [], ◌++◌, length, take, drop, sym, ◌∙◌, ap, refl, subst, arith}
+use Rattle.std.proofs.Math.Seq.{take-add, take-append-add}
 use Rattle.std.specs.Prelude.{Some, None}
 use Rattle.std.specs.declared.option.Option.{Option}
 use Rattle.std.specs.Io.KnownBytes.{Consumes, Appends, Keeps}
-use Rattle.std.proofs.lemmas.List.{append-nil, append_assoc, take_rest, take_all}
+use Rattle.std.proofs.lemmas.List.{append-nil, append_assoc, length-append, take_rest, take_all}
 use Rattle.adsc_io.specs.Writes.{AppendsPrefix}
 
 -- no bytes
@@ -57,6 +57,14 @@ Appends-piece old middle new bytes at count first second =
 pub AppendsPrefix-kept : (old middle new : Option (List ℕ)) (bytes : List ℕ) (at : ℕ)
     → Appends old middle (take at bytes) → Keeps middle new → at < length bytes → AppendsPrefix old new bytes
 AppendsPrefix-kept old middle new bytes at first kept short = (at, short, Appends-kept old middle new (take at bytes) first kept)
+
+-- all of some bytes, and then a front of others
+pub AppendsPrefix-then : (old middle new : Option (List ℕ)) (xs ys : List ℕ) → Appends old middle xs → AppendsPrefix middle new ys → AppendsPrefix old new (xs ++ ys)
+AppendsPrefix-then old middle new xs ys first (count, short, second) = (
+  length xs + count,
+  omega (arith, short, length-append xs ys),
+  subst (Appends old new) (sym (take-append-add xs ys count)) (Appends-then old middle new xs (take count ys) first second),
+)
 
 -- a front of the bytes that is all of them
 pub Appends-whole : (old new : Option (List ℕ)) (bytes : List ℕ) (at : ℕ) → Appends old new (take at bytes) → length bytes ≤ at → Appends old new bytes

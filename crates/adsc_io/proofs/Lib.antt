@@ -1,6 +1,9 @@
 pub mod InputLaws
+pub mod LineEndLaws
 pub mod Joined
 pub mod LimitLaws
-pub mod LimitsTied
 pub mod LinesLaws
 pub mod MemoryLemmas
+pub mod OneLine
+pub mod PassedLaws
+pub mod ReaderLaws

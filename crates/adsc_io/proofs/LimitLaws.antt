@@ -1,166 +1,266 @@
--- The laws of the lines before the limit.
-use Rattle.std.proofs.Common.{◌≡◌, ◌≢◌, ℕ, ◌+◌, ◌-◌, ◌<◌, ◌≤◌, ◌⊎◌, inl, inr, Bool, true, false, not, IsTrue, cond, eqb, if◌then◌else◌, nat_le, List, [], ◌∷◌, ◌++◌, length, take, ◌↔◌, sym, ap, ◌∙◌, refl, subst, append_assoc, append-nil, arith}
-use Rattle.std.specs.List.{onto_first}
-use Rattle.std.proofs.lemmas.Bool.{lt-leb}
-use Rattle.std.proofs.lemmas.List.{length-append, length-take, take-append-le, take_at, take_all}
-use Rattle.adsc_io.specs.Inputs.{IsOverLimit, first_lines, lines_before_limit, whole_lines}
-use Rattle.adsc_io.specs.Limits.{max_script_bytes, max_script_lines}
-use Rattle.adsc_io.specs.Lines.{newline, script_lines, BeginsWithLine, IsUnbroken}
-use Rattle.adsc_io.proofs.LinesLaws.{script_lines-none, script_lines-next, script_lines-begins}
-use Rattle.adsc_io.proofs.InputLaws.{EndsWhole}
+-- The laws of the limit of an input, and of the lines before it.
+use Rattle.std.proofs.Common.{◌≡◌, ◌≢◌, ℕ, zero, suc, ◌+◌, ◌-◌, ◌<◌, ◌≤◌, ◌⊎◌, inl, inr, Bool, true, false, IsTrue, cond, eqb, List, [], ◌∷◌, ◌++◌, All, length, take, drop, ◌↔◌, sym, ap, ◌∙◌, refl, subst, append_assoc, arith, ne_eqb}
+use Rattle.std.proofs.lemmas.Bool.{cases_Bool, cases_lt, eqb-true, eqb-false, le-leb, lt-leb, leb-true, leb-false, and_parts, and_from, and_cases, and_left, and_right, cond-true, cond-false}
+use Rattle.std.proofs.lemmas.List.{length-append, length-drop, length-take-le, take-append-drop, take-append-le, take_at, drop_at, take_all}
+use Rattle.std.proofs.lemmas.List.Elements.{All-nil, All-cons, All-head, All-tail}
+use Rattle.adsc_io.specs.Inputs.{IsLineAt, IsOverLimit, is_within_limits, line_end, lines_before_limit, lines_within, onto_whole, whole_lines}
+use Rattle.adsc_io.specs.Lines.{newline, script_lines, ended_lines, BeginsWithLine, IsUnbroken}
+use Rattle.adsc_io.specs.declared.limits.TheConstants.{MAX_SCRIPT_BYTES, MAX_SCRIPT_LINES}
+use Rattle.adsc_io.proofs.LineEndLaws.{begins_or_none, line_end-later, next_line_end, unbroken_within}
+use Rattle.adsc_io.proofs.LinesLaws.{ended-script_lines, script_lines-next}
 
--- a byte before lines that go on
-onto_more : (byte : ℕ) (lines more : List (List ℕ)) → lines ≢ [] → onto_first byte (lines ++ more) ≡ onto_first byte lines ++ more
-onto_more byte [] more some = absurd (some refl)
-onto_more byte (line ∷ lines) more some = refl
+-- ---- which lines are within the limits
 
--- bytes that end with a newline have their lines, whatever follows
-pub lines_split : (front rest : List ℕ) → EndsWhole front → script_lines (front ++ rest) ≡ script_lines front ++ script_lines rest
-lines_split [] rest ends = refl
-lines_split (byte ∷ []) rest ends =
-    ap (λ b. script_lines (b ∷ rest)) ends ∙ sym (ap (λ b. script_lines (b ∷ []) ++ script_lines rest) ends)
-lines_split (byte ∷ next ∷ front) rest ends = at (eqb byte newline) (lines_split (next ∷ front) rest ends)
-  where
-    at : (b : Bool) → script_lines (next ∷ (front ++ rest)) ≡ script_lines (next ∷ front) ++ script_lines rest
-        → cond b ([] ∷ script_lines (next ∷ (front ++ rest))) (onto_first byte (script_lines (next ∷ (front ++ rest))))
-        ≡ cond b ([] ∷ script_lines (next ∷ front)) (onto_first byte (script_lines (next ∷ front))) ++ script_lines rest
-    at true behind = ap (λ ls. [] ∷ ls) behind
-    at false behind =
-        ap (onto_first byte) behind
-        ∙ onto_more byte (script_lines (next ∷ front)) (script_lines rest)
-        (λ none. let nothing : next ∷ front ≡ [] = script_lines-none (next ∷ front) none in cc)
+pub within_from : (bytes : List ℕ) (number : ℕ) → number ≤ MAX_SCRIPT_LINES → line_end bytes number ≤ MAX_SCRIPT_BYTES → is_within_limits bytes number ≡ true
+within_from bytes number few short = and_from _ _ (le-leb number MAX_SCRIPT_LINES few) (le-leb (line_end bytes number) MAX_SCRIPT_BYTES short)
 
--- bytes end with a newline that stands behind all of them
-pub newline_last : (front : List ℕ) → EndsWhole (front ++ newline ∷ [])
-newline_last [] = refl
-newline_last (byte ∷ []) = refl
-newline_last (byte ∷ next ∷ front) = newline_last (next ∷ front)
+pub over_from_number : (bytes : List ℕ) (number : ℕ) → MAX_SCRIPT_LINES < number → is_within_limits bytes number ≡ false
+over_from_number bytes number many = and_left _ _ (lt-leb number MAX_SCRIPT_LINES many)
 
--- ---- as many lines as were passed
+pub over_from_place : (bytes : List ℕ) (number : ℕ) → MAX_SCRIPT_BYTES < line_end bytes number → is_within_limits bytes number ≡ false
+over_from_place bytes number long = and_right _ _ (lt-leb (line_end bytes number) MAX_SCRIPT_BYTES long)
 
--- The bytes are those that were passed, with so many lines, and the rest.
-pub record IsPassed (bytes rest : List ℕ) (count : ℕ) : Type 0 where
-  pub front : List ℕ
-  pub joined : bytes ≡ front ++ rest
-  pub lines : script_lines bytes ≡ script_lines front ++ script_lines rest
-  pub whole : EndsWhole front ⊎ (rest ≡ [])
-  pub counted : length (script_lines front) ≡ count
+pub within_parts : (bytes : List ℕ) (number : ℕ) → is_within_limits bytes number ≡ true → (number ≤ MAX_SCRIPT_LINES) × (line_end bytes number ≤ MAX_SCRIPT_BYTES)
+within_parts bytes number within =
+    let parts = and_parts _ _ within in
+    (leb-true number MAX_SCRIPT_LINES parts.0, leb-true (line_end bytes number) MAX_SCRIPT_BYTES parts.1)
 
-pub nothing_passed : (bytes : List ℕ) → IsPassed bytes bytes 0
-nothing_passed bytes = record { front = []; joined = refl; lines = refl; whole = inl tt; counted = refl }
+-- Lines before one that is within the limits are too.
+pub within_before : (bytes : List ℕ) (low high : ℕ) → low ≤ high → is_within_limits bytes high ≡ true → is_within_limits bytes low ≡ true
+within_before bytes low high before within =
+    let parts = within_parts bytes high within in
+    within_from bytes low (omega (arith, before, parts.0)) (omega (arith, parts.1, line_end-later bytes low high before))
 
--- one line more, which a newline ends
-passed_newline : (bytes rest line behind : List ℕ) (count : ℕ) → IsPassed bytes rest count → IsUnbroken line → rest ≡ line ++ newline ∷ behind
-    → IsPassed bytes behind (count + 1)
-passed_newline bytes rest line behind count passed unbroken cut = elim passed.whole [
-  | inl ends ↦ more ends
-  | inr none ↦ absurd (omega (arith, ap length (sym none ∙ cut), length-append line (newline ∷ behind)))
-]
-  where
-    more : EndsWhole passed.front → IsPassed bytes behind (count + 1)
-    more ends =
-        let front : List ℕ = passed.front ++ (line ++ newline ∷ []) in
-        let last : EndsWhole front = subst EndsWhole (append_assoc passed.front line (newline ∷ [])) (newline_last (passed.front ++ line)) in
-        let joined : bytes ≡ front ++ behind =
-        passed.joined ∙ ap (λ r. passed.front ++ r) (cut ∙ sym (append_assoc line (newline ∷ []) behind)) ∙ sym (append_assoc passed.front (line ++ newline ∷ []) behind) in
-        record {
-          front = front;
-          joined = joined;
-          lines = ap script_lines joined ∙ lines_split front behind last;
-          whole = inl last;
-          counted = omega (
-            arith,
-            passed.counted,
-            ap length (lines_split passed.front (line ++ newline ∷ []) ends),
-            ap length (script_lines-next line [] unbroken),
-            length-append (script_lines passed.front) (script_lines (line ++ newline ∷ [])),
-          );
-        }
+-- ---- the lines before the limit
 
--- one line more, which the input ends
-passed_last : (bytes rest line behind : List ℕ) (count : ℕ) → IsPassed bytes rest count → rest ≡ line → behind ≡ [] → script_lines rest ≡ line ∷ script_lines behind
-    → IsPassed bytes behind (count + 1)
-passed_last bytes rest line behind count passed cut none next = record {
-  front = bytes;
-  joined = sym (append-nil bytes) ∙ ap (λ b. bytes ++ b) (sym none);
-  lines = sym (append-nil (script_lines bytes)) ∙ ap (λ b. script_lines bytes ++ script_lines b) (sym none);
-  whole = inr none;
-  counted = omega (arith, passed.counted, ap length passed.lines, ap length next, ap (λ b. length (script_lines b)) none, length-append (script_lines passed.front) (script_lines rest));
-}
+-- Of lines that go on from this number, so many stand before the limit as are within it and no more.
+lines_within-at : (bytes : List ℕ) (number : ℕ) (lines : List (List ℕ)) (count : ℕ)
+    → ((n : ℕ) → n < number + count → is_within_limits bytes n ≡ true)
+    → (length lines ≤ count) ⊎ (is_within_limits bytes (number + count) ≡ false) → lines_within bytes number lines ≡ take count lines
+lines_within-at bytes number [] zero within last = refl
+lines_within-at bytes number [] (suc count) within last = refl
+lines_within-at bytes number (line ∷ lines) zero within (inl few) = absurd (omega (arith, few))
+lines_within-at bytes number (line ∷ lines) zero within (inr over) =
+    let same : number + 0 ≡ number = omega arith in
+    cond-false (is_within_limits bytes number) (line ∷ lines_within bytes (number + 1) lines) [] (subst (λ n. is_within_limits bytes n ≡ false) same over)
+lines_within-at bytes number (line ∷ lines) (suc count) within last =
+    let next : number + suc count ≡ number + 1 + count = omega arith in
+    cond-true (is_within_limits bytes number) (line ∷ lines_within bytes (number + 1) lines) [] (within number (omega arith))
+    ∙ ap (λ ls. line ∷ ls) (lines_within-at bytes (number + 1) lines count (λ n low. within n (omega (arith, low))) (elim last [
+      | inl few ↦ inl (omega (arith, few))
+      | inr over ↦ inr (subst (λ n. is_within_limits bytes n ≡ false) next over)
+    ]))
 
-pub line_passed : (bytes rest line behind : List ℕ) (count : ℕ) → IsPassed bytes rest count → BeginsWithLine rest line behind → IsPassed bytes behind (count + 1)
-line_passed bytes rest line behind count passed begins = elim begins.cut [
-  | inl cut ↦ passed_newline bytes rest line behind count passed begins.unbroken cut
-  | inr last ↦ passed_last bytes rest line behind count passed last.0 last.1 (script_lines-begins rest line behind begins)
-]
+-- The lines before the limit are so many, where the last of them is within it and the next one isn't or isn't there.
+pub before_limit-at : (bytes : List ℕ) (count : ℕ) → is_within_limits bytes count ≡ true
+    → (length (script_lines bytes) ≤ count) ⊎ (is_within_limits bytes (count + 1) ≡ false) → lines_before_limit bytes ≡ take count (script_lines bytes)
+before_limit-at bytes count within last =
+    let same : count + 1 ≡ 1 + count = omega arith in
+    lines_within-at bytes 1 (script_lines bytes) count (λ n low. within_before bytes n count (omega (arith, low)) within) (elim last [
+      | inl few ↦ inl few
+      | inr over ↦ inr (subst (λ n. is_within_limits bytes n ≡ false) same over)
+    ])
 
--- where nothing is left, all lines were passed
-pub all_passed : (bytes rest : List ℕ) (count most : ℕ) → IsPassed bytes rest count → rest ≡ [] → count ≤ most
-    → (length (script_lines bytes) ≤ most) × (script_lines bytes ≡ take most (script_lines bytes))
-all_passed bytes rest count most passed none within =
-    let few : length (script_lines bytes) ≤ most =
-    omega (arith, passed.counted, ap length passed.lines, ap (λ b. length (script_lines b)) none, length-append (script_lines passed.front) (script_lines rest), within) in
-    (few, sym (take_all most (script_lines bytes) few))
-
--- what was passed stands in front
-pub passed_front : (bytes rest : List ℕ) (count : ℕ) → IsPassed bytes rest count → script_lines (take (length bytes - length rest) bytes) ≡ take count (script_lines bytes)
-passed_front bytes rest count passed =
-    let place : length bytes - length rest ≡ length passed.front = omega (arith, ap length passed.joined, length-append passed.front rest) in
-    ap script_lines (ap (λ k. take k bytes) place ∙ ap (take (length passed.front)) passed.joined ∙ take_at passed.front rest (length passed.front) refl)
-    ∙ sym (ap (take count) passed.lines ∙ take_at (script_lines passed.front) (script_lines rest) count passed.counted)
-
--- there are more lines exactly where something is left
-pub more_left : (bytes rest : List ℕ) (count : ℕ) → IsPassed bytes rest count → (rest ≢ []) ↔ (count < length (script_lines bytes))
-more_left bytes rest count passed =
-    let total : length (script_lines bytes) ≡ count + length (script_lines rest) =
-    omega (arith, passed.counted, ap length passed.lines, length-append (script_lines passed.front) (script_lines rest)) in (
-      λ some. omega (arith, total, some_lines rest some),
-      λ over none. omega (arith, total, over, ap (λ b. length (script_lines b)) none),
+lines_within-front : (bytes : List ℕ) (number : ℕ) (lines : List (List ℕ)) (count : ℕ) → ((n : ℕ) → n < number + count → is_within_limits bytes n ≡ true)
+    → (behind : List (List ℕ)) × (lines_within bytes number lines ≡ take count lines ++ behind)
+lines_within-front bytes number [] zero within = ([], refl)
+lines_within-front bytes number [] (suc count) within = ([], refl)
+lines_within-front bytes number (line ∷ lines) zero within = (lines_within bytes number (line ∷ lines), refl)
+lines_within-front bytes number (line ∷ lines) (suc count) within =
+    let more = lines_within-front bytes (number + 1) lines count (λ n low. within n (omega (arith, low))) in (
+      more.0,
+      cond-true (is_within_limits bytes number) (line ∷ lines_within bytes (number + 1) lines) [] (within number (omega arith)) ∙ ap (λ ls. line ∷ ls) more.1,
     )
-  where
-    some_lines : (rest : List ℕ) → rest ≢ [] → 0 < length (script_lines rest)
-    some_lines rest some = at (script_lines rest) refl
-      where
-        at : (lines : List (List ℕ)) → script_lines rest ≡ lines → 0 < length lines
-        at [] none = absurd (some (script_lines-none rest none))
-        at (line ∷ lines) is = omega arith
 
--- the same of a test for emptiness
-pub some_left : (bytes rest : List ℕ) (count most : ℕ) (empty : Bool) → IsPassed bytes rest count → count ≡ most
-    → (empty ≡ true → rest ≡ []) → (rest ≡ [] → empty ≡ true) → IsTrue (not empty) ↔ (most < length (script_lines bytes))
-some_left bytes rest count most true passed all none empty =
-    (λ some. absurd (cc), λ over. absurd ((more_left bytes rest count passed).1 (omega (arith, over, all)) (none refl)))
-some_left bytes rest count most false passed all none empty =
-    (λ some. omega (arith, all, (more_left bytes rest count passed).0 (λ nothing. let both : false ≡ true = empty nothing in cc)), λ over. refl)
+-- The lines up to one that is within the limits stand before the limit.
+pub before_limit-front : (bytes : List ℕ) (count : ℕ) → is_within_limits bytes count ≡ true
+    → (behind : List (List ℕ)) × (lines_before_limit bytes ≡ take count (script_lines bytes) ++ behind)
+before_limit-front bytes count within =
+    lines_within-front bytes 1 (script_lines bytes) count (λ n low. within_before bytes n count (omega (arith, low)) within)
+
+lines_within-few : (bytes : List ℕ) (number : ℕ) (lines : List (List ℕ)) → number + length (lines_within bytes number lines) ≤ number + (MAX_SCRIPT_LINES + 1 - number)
+lines_within-few bytes number [] = omega arith
+lines_within-few bytes number (line ∷ lines) = at (is_within_limits bytes number) refl (lines_within-few bytes (number + 1) lines)
+  where
+    at : (within : Bool) → is_within_limits bytes number ≡ within
+        → number + 1 + length (lines_within bytes (number + 1) lines) ≤ number + 1 + (MAX_SCRIPT_LINES + 1 - (number + 1))
+        → number + length (cond within (line ∷ lines_within bytes (number + 1) lines) []) ≤ number + (MAX_SCRIPT_LINES + 1 - number)
+    at true within few = omega (arith, (within_parts bytes number within).0, few)
+    at false over few = omega arith
+
+-- The lines before the limit are no more than a script may have.
+pub few_before : (bytes : List ℕ) → length (lines_before_limit bytes) ≤ MAX_SCRIPT_LINES
+few_before bytes = omega (arith, lines_within-few bytes 1 (script_lines bytes))
+
+-- ---- whether the limit is met
+
+-- The last line ends with the input.
+line_end-last : (bytes : List ℕ) → line_end bytes (length (script_lines bytes)) ≡ length bytes
+line_end-last bytes =
+    let all = ap (λ ls. length (ended_lines ls)) (take_all (length (script_lines bytes)) (script_lines bytes) (omega arith)) in
+    elim (ended-script_lines bytes) [
+      | inl whole ↦ omega (arith, all, ap length whole)
+      | inr started ↦ omega (arith, all, ap length started, length-append bytes (newline ∷ []))
+    ]
+
+-- An input of too many bytes is over the limit.
+pub over_by_bytes : (bytes : List ℕ) → MAX_SCRIPT_BYTES < length bytes → IsOverLimit bytes
+over_by_bytes bytes long =
+    (length (script_lines bytes), (refl, omega arith, over_from_place bytes (length (script_lines bytes)) (omega (arith, long, line_end-last bytes))))
+
+-- An input of too many lines is over the limit.
+pub over_by_lines : (bytes : List ℕ) → MAX_SCRIPT_LINES < length (script_lines bytes) → IsOverLimit bytes
+over_by_lines bytes many = (MAX_SCRIPT_LINES + 1, (refl, omega (arith, many), over_from_number bytes (MAX_SCRIPT_LINES + 1) (omega arith)))
+
+-- Within the limit of bytes an input over the limit has too many lines.
+pub over_is_many : (bytes : List ℕ) → length bytes ≤ MAX_SCRIPT_BYTES → IsOverLimit bytes → MAX_SCRIPT_LINES < length (script_lines bytes)
+over_is_many bytes short (number, (same, there, over)) = elim (and_cases _ _ over) [
+  | inl many ↦ let above : MAX_SCRIPT_LINES < number = leb-false number MAX_SCRIPT_LINES many in omega (arith, there, above)
+  | inr long ↦ absurd (omega (arith, short, leb-false (line_end bytes number) MAX_SCRIPT_BYTES long))
+]
+
+-- Where no line is over the limit, all lines are before it.
+pub before_limit-all : (bytes : List ℕ) → (IsOverLimit bytes → ⊥) → lines_before_limit bytes ≡ script_lines bytes
+before_limit-all bytes within = elim (cases_Bool (is_within_limits bytes (length (script_lines bytes)))) [
+  | inl last ↦ before_limit-at bytes (length (script_lines bytes)) last (inl (omega arith)) ∙ take_all (length (script_lines bytes)) (script_lines bytes) (omega arith)
+  | inr over ↦ absurd (within (length (script_lines bytes), (refl, omega arith, over)))
+]
 
 -- ---- the limit of bytes
 
--- within the limit of bytes the limit is that of lines
-pub over_within : (bytes : List ℕ) (more : Bool) → (max_script_bytes < length bytes → ⊥) → IsTrue more ↔ (max_script_lines < length (script_lines bytes)) → IsTrue more ↔ IsOverLimit bytes
-over_within bytes more short over = (
-  λ is. inr (over.0 is),
-  λ limit. elim limit [ inl long ↦ absurd (short long) | inr many ↦ over.1 many ],
+-- Within the limit of bytes the lines before the limit are the first ones.
+pub before_short : (bytes : List ℕ) → length bytes ≤ MAX_SCRIPT_BYTES → lines_before_limit bytes ≡ take MAX_SCRIPT_LINES (script_lines bytes)
+before_short bytes short = elim (cases_lt MAX_SCRIPT_LINES (length (script_lines bytes))) [
+  | inl many ↦ before_limit-at bytes MAX_SCRIPT_LINES (within_from bytes MAX_SCRIPT_LINES (omega arith) (omega (arith, short))) (inr (over_from_number bytes (MAX_SCRIPT_LINES + 1) (omega arith)))
+  | inr few ↦ before_limit-at bytes (length (script_lines bytes)) (within_from bytes (length (script_lines bytes)) few (omega (arith, short))) (inl (omega arith))
+      ∙ take_all (length (script_lines bytes)) (script_lines bytes) (omega arith)
+      ∙ sym (take_all MAX_SCRIPT_LINES (script_lines bytes) few)
+]
+
+-- Bytes are the lines that a newline ends, and then the beginning of one.
+pub record IsSplit (bytes : List ℕ) : Type 0 where
+  pub beginning : List ℕ
+  pub joined : bytes ≡ ended_lines (whole_lines bytes) ++ beginning
+  pub unbroken : IsUnbroken beginning
+  pub lines : All IsUnbroken (whole_lines bytes)
+
+pub whole_lines-split : (bytes : List ℕ) → IsSplit bytes
+whole_lines-split [] = record { beginning = []; joined = refl; unbroken = All-nil (λ b. b ≢ newline); lines = All-nil IsUnbroken }
+whole_lines-split (byte ∷ bytes) = elim (cases_Bool (eqb byte newline)) [
+  | inl ends ↦ at_newline ends (whole_lines-split bytes)
+  | inr other ↦ at_byte other (whole_lines bytes) refl (whole_lines-split bytes)
+]
+  where
+    at_newline : eqb byte newline ≡ true → IsSplit bytes → IsSplit (byte ∷ bytes)
+    at_newline ends rest =
+        let lines : whole_lines (byte ∷ bytes) ≡ [] ∷ whole_lines bytes = ap (λ b. cond b ([] ∷ whole_lines bytes) (onto_whole byte (whole_lines bytes))) ends in
+        record {
+          beginning = rest.beginning;
+          joined = ap (λ b. b ∷ bytes) (eqb-true byte newline ends) ∙ ap (λ bs. newline ∷ bs) rest.joined ∙ ap (λ ls. ended_lines ls ++ rest.beginning) (sym lines);
+          unbroken = rest.unbroken;
+          lines = subst (All IsUnbroken) (sym lines) (All-cons IsUnbroken [] (whole_lines bytes) (All-nil (λ b. b ≢ newline)) rest.lines);
+        }
+
+    at_byte : eqb byte newline ≡ false → (lines : List (List ℕ)) → whole_lines bytes ≡ lines → IsSplit bytes → IsSplit (byte ∷ bytes)
+    at_byte other [] none rest =
+        let lines : whole_lines (byte ∷ bytes) ≡ [] =
+        ap (λ b. cond b ([] ∷ whole_lines bytes) (onto_whole byte (whole_lines bytes))) other ∙ ap (onto_whole byte) none in
+        record {
+          beginning = byte ∷ rest.beginning;
+          joined = ap (λ bs. byte ∷ bs) (rest.joined ∙ ap (λ ls. ended_lines ls ++ rest.beginning) none) ∙ ap (λ ls. ended_lines ls ++ byte ∷ rest.beginning) (sym lines);
+          unbroken = All-cons (λ b. b ≢ newline) byte rest.beginning (eqb-false byte newline other) rest.unbroken;
+          lines = subst (All IsUnbroken) (sym lines) (All-nil IsUnbroken);
+        }
+    at_byte other (line ∷ more) some rest =
+        let lines : whole_lines (byte ∷ bytes) ≡ (byte ∷ line) ∷ more =
+        ap (λ b. cond b ([] ∷ whole_lines bytes) (onto_whole byte (whole_lines bytes))) other ∙ ap (onto_whole byte) some in
+        let all : All IsUnbroken (line ∷ more) = subst (All IsUnbroken) some rest.lines in
+        record {
+          beginning = rest.beginning;
+          joined = ap (λ bs. byte ∷ bs) (rest.joined ∙ ap (λ ls. ended_lines ls ++ rest.beginning) some) ∙ ap (λ ls. ended_lines ls ++ rest.beginning) (sym lines);
+          unbroken = rest.unbroken;
+          lines = subst (All IsUnbroken) (sym lines) (All-cons IsUnbroken (byte ∷ line) more
+              (All-cons (λ b. b ≢ newline) byte line (eqb-false byte newline other) (All-head IsUnbroken line more all)) (All-tail IsUnbroken line more all));
+        }
+
+-- Behind lines that a newline ends stand the lines of the rest.
+pub script_lines-whole : (lines : List (List ℕ)) (rest : List ℕ) → All IsUnbroken lines → script_lines (ended_lines lines ++ rest) ≡ lines ++ script_lines rest
+script_lines-whole [] rest unbroken = refl
+script_lines-whole (line ∷ lines) rest unbroken =
+    ap script_lines (append_assoc line (newline ∷ ended_lines lines) rest)
+    ∙ script_lines-next line (ended_lines lines ++ rest) (All-head IsUnbroken line lines unbroken)
+    ∙ ap (λ ls. line ∷ ls) (script_lines-whole lines rest (All-tail IsUnbroken line lines unbroken))
+
+-- The lines that a newline ends end with it.
+pub line_end-whole : (bytes rest : List ℕ) (lines : List (List ℕ)) → All IsUnbroken lines → bytes ≡ ended_lines lines ++ rest → line_end bytes (length lines) ≡ length (ended_lines lines)
+line_end-whole bytes rest lines unbroken joined = omega (
+  arith,
+  ap length joined,
+  length-append (ended_lines lines) rest,
+  ap (λ ls. length (ended_lines ls)) (ap (take (length lines)) (ap script_lines joined ∙ script_lines-whole lines rest unbroken) ∙ take_at lines (script_lines rest) (length lines) refl),
 )
 
--- the lines before the limit are no more than a script may have
-pub few_before : (bytes : List ℕ) → length (lines_before_limit bytes) ≤ max_script_lines
-few_before bytes = at (nat_le (length bytes) max_script_bytes)
+-- Over the limit of bytes the lines before the limit are the first ones that end within it.
+pub before_long : (bytes : List ℕ) → MAX_SCRIPT_BYTES < length bytes → lines_before_limit bytes ≡ take MAX_SCRIPT_LINES (whole_lines (take MAX_SCRIPT_BYTES bytes))
+before_long bytes long = at (whole_lines-split (take MAX_SCRIPT_BYTES bytes))
   where
-    few : (lines : List (List ℕ)) → length (take max_script_lines lines) ≤ max_script_lines
-    few lines = omega (arith, length-take max_script_lines lines)
+    whole : List (List ℕ)
+    whole = whole_lines (take MAX_SCRIPT_BYTES bytes)
 
-    at : (b : Bool) → length (if b then first_lines (script_lines bytes) else first_lines (whole_lines (take max_script_bytes bytes))) ≤ max_script_lines
-    at true = few (script_lines bytes)
-    at false = few (whole_lines (take max_script_bytes bytes))
+    at : IsSplit (take MAX_SCRIPT_BYTES bytes) → lines_before_limit bytes ≡ take MAX_SCRIPT_LINES whole
+    at split = elim (cases_lt MAX_SCRIPT_LINES (length whole)) [
+      | inl many ↦ before_limit-at bytes MAX_SCRIPT_LINES (within_from bytes MAX_SCRIPT_LINES (omega arith) (omega (arith, short, line_end-later bytes MAX_SCRIPT_LINES (length whole) (omega (arith, many))))) (inr (over_from_number bytes (MAX_SCRIPT_LINES + 1) (omega arith)))
+          ∙ ap (take MAX_SCRIPT_LINES) lines
+          ∙ take-append-le MAX_SCRIPT_LINES whole (script_lines tail) (omega (arith, many))
+      | inr few ↦ before_limit-at bytes (length whole) (within_from bytes (length whole) few short) (inr (over_from_place bytes (length whole + 1) behind))
+          ∙ ap (take (length whole)) lines
+          ∙ take_at whole (script_lines tail) (length whole) refl
+          ∙ sym (take_all MAX_SCRIPT_LINES whole few)
+    ]
+      where
+        tail : List ℕ
+        tail = split.beginning ++ drop MAX_SCRIPT_BYTES bytes
 
--- over the limit of bytes the lines before the limit are those of a beginning
-pub before_long : (bytes : List ℕ) → max_script_bytes < length bytes → lines_before_limit bytes ≡ first_lines (whole_lines (take max_script_bytes bytes))
-before_long bytes long =
-    ap (λ b. cond b (first_lines (script_lines bytes)) (first_lines (whole_lines (take max_script_bytes bytes)))) (lt-leb (length bytes) max_script_bytes long)
+        joined : bytes ≡ ended_lines whole ++ tail
+        joined = sym (take-append-drop MAX_SCRIPT_BYTES bytes) ∙ ap (λ front. front ++ drop MAX_SCRIPT_BYTES bytes) split.joined ∙ append_assoc (ended_lines whole) split.beginning (drop MAX_SCRIPT_BYTES bytes)
 
--- bytes over the limit have these lines before the limit, whatever follows
-pub before_more : (bytes more : List ℕ) → max_script_bytes < length bytes → lines_before_limit (bytes ++ more) ≡ lines_before_limit bytes
+        lines : script_lines bytes ≡ whole ++ script_lines tail
+        lines = ap script_lines joined ∙ script_lines-whole whole tail split.lines
+
+        place : line_end bytes (length whole) ≡ length (ended_lines whole)
+        place = line_end-whole bytes tail whole split.lines joined
+
+        sizes : (length (ended_lines whole) + length split.beginning ≡ MAX_SCRIPT_BYTES) × (length (drop MAX_SCRIPT_BYTES bytes) + MAX_SCRIPT_BYTES ≡ length bytes)
+        sizes = (
+          omega (arith, long, ap length split.joined, length-append (ended_lines whole) split.beginning, length-take-le MAX_SCRIPT_BYTES bytes),
+          omega (arith, long, length-drop MAX_SCRIPT_BYTES bytes),
+        )
+
+        short : line_end bytes (length whole) ≤ MAX_SCRIPT_BYTES
+        short = omega (arith, place, sizes.0)
+
+        behind : MAX_SCRIPT_BYTES < line_end bytes (length whole + 1)
+        behind = elim (begins_or_none tail) [
+          | inl none ↦ absurd (omega (arith, long, sizes.1, ap length none, length-append split.beginning (drop MAX_SCRIPT_BYTES bytes)))
+          | inr (line, more, begins) ↦
+              let here : drop (line_end bytes (length whole)) bytes ≡ tail = ap (λ k. drop k bytes) place ∙ ap (drop (length (ended_lines whole))) joined ∙ drop_at (ended_lines whole) tail (length (ended_lines whole)) refl in
+              let next = next_line_end (length whole) bytes line more (subst (λ bs. BeginsWithLine bs line more) (sym here) begins) in
+              elim (unbroken_within split.beginning (drop MAX_SCRIPT_BYTES bytes) line more split.unbroken begins) [
+                | inl inside ↦ omega (arith, next.0, inside, sizes.1)
+                | inr none ↦ omega (arith, next.0, ap length none, long)
+              ]
+        ]
+
+-- Bytes over the limit have these lines before the limit, whatever follows.
+pub before_more : (bytes more : List ℕ) → MAX_SCRIPT_BYTES < length bytes → lines_before_limit (bytes ++ more) ≡ lines_before_limit bytes
 before_more bytes more long =
     before_long (bytes ++ more) (omega (arith, long, length-append bytes more))
-    ∙ ap (λ front. first_lines (whole_lines front)) (take-append-le max_script_bytes bytes more (omega (arith, long)))
+    ∙ ap (λ front. take MAX_SCRIPT_LINES (whole_lines front)) (take-append-le MAX_SCRIPT_BYTES bytes more (omega (arith, long)))
     ∙ sym (before_long bytes long)
+
+-- Within the limit of bytes the limit is that of lines.
+pub over_within : (bytes : List ℕ) (more : Bool) → (MAX_SCRIPT_BYTES < length bytes → ⊥) → IsTrue more ↔ (MAX_SCRIPT_LINES < length (script_lines bytes)) → IsTrue more ↔ IsOverLimit bytes
+over_within bytes more short over = (
+  λ is. over_by_lines bytes (over.0 is),
+  λ limit. over.1 (over_is_many bytes (elim (cases_lt MAX_SCRIPT_BYTES (length bytes)) [ inl long ↦ absurd (short long) | inr at_most ↦ at_most ]) limit),
+)

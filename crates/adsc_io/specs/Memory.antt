@@ -13,7 +13,7 @@ moved piece room bytes = min (min piece room) bytes
 
 -- A source in memory: the bytes not yet read, the most that one read gives, the numbers of the reads that fail, how many
 -- reads there were, and how many failed.
-pub record Reading : Type 0 where
+pub record MemoryInput : Type 0 where
   pub left : List ℕ
   pub piece : ℕ
   pub fails : List ℕ
@@ -21,25 +21,25 @@ pub record Reading : Type 0 where
   pub faults : ℕ
 
 -- after a read of this many bytes
-abbrev pub read_on : Reading → ℕ → Reading
+abbrev pub read_on : MemoryInput → ℕ → MemoryInput
 read_on source count = record source { left = drop count source.left; calls = count_after source.calls }
 
 -- after a read that failed
-abbrev pub read_failed : Reading → Reading
+abbrev pub read_failed : MemoryInput → MemoryInput
 read_failed source = record source { calls = count_after source.calls; faults = count_after source.faults }
 
 -- a source in memory that never fails: the bytes not yet read, and the most that one read gives
-pub record Steady : Type 0 where
+pub record SteadyInput : Type 0 where
   pub left : List ℕ
   pub piece : ℕ
 
 -- after a read of this many bytes
-abbrev pub steady_on : Steady → ℕ → Steady
+abbrev pub steady_on : SteadyInput → ℕ → SteadyInput
 steady_on source count = record source { left = drop count source.left }
 
 -- A sink in memory: the bytes written, the room that is left, the most that one write takes, the numbers of the writes
 -- that fail, how many writes there were, and how many failed.
-pub record Writing : Type 0 where
+pub record MemoryOutput : Type 0 where
   pub written : List ℕ
   pub room : ℕ
   pub piece : ℕ
@@ -48,14 +48,14 @@ pub record Writing : Type 0 where
   pub faults : ℕ
 
 -- the next write is to fail: its number stands in the list, or no room is left
-abbrev pub IsRefused : Writing → Type 0
+abbrev pub IsRefused : MemoryOutput → Type 0
 IsRefused sink = IsDue sink.fails sink.calls ⊎ (sink.room ≡ 0)
 
 -- after a write of the front of these bytes
-abbrev pub written_on : Writing → List ℕ → ℕ → Writing
+abbrev pub written_on : MemoryOutput → List ℕ → ℕ → MemoryOutput
 written_on sink bytes count =
     record sink { written = sink.written ++ take count bytes; room = sink.room - count; calls = count_after sink.calls }
 
 -- after a write that failed
-abbrev pub write_failed : Writing → Writing
+abbrev pub write_failed : MemoryOutput → MemoryOutput
 write_failed sink = record sink { calls = count_after sink.calls; faults = count_after sink.faults }

@@ -5,31 +5,37 @@
 //! falls. A call may answer a fault only where that count rose in this very call, so code above can't give up and blame
 //! the device. `MemSource`, `SteadySource` and `MemSink` stand in memory, with chosen calls that fail, for tests;
 //! `StdSource` and `StdSink` are thin adapters over the readers and writers of the standard library, for the program.
-//! Above stand the crates that read scripts and write outputs, up to the bench: they call `read_whole`, `next_line`,
-//! `before_limit`, `whole_lines` and `write_all`, and cite the definitions in `specs/`.
+//! A [`LineReader`] answers the lines of a source one by one, in memory that it takes once, whatever pieces the source
+//! gives. Above stand the crates that read scripts and write outputs, up to the bench: `show` reads by a `LineReader`, and
+//! `run` by `read_whole`, `before_limit` and `next_line`; both write by `write_all`.
 //!
 //! Begin with `specs/Causes.antt` (when a fault may be answered), then `traits.rt`, then `specs/Lines.antt` (what a line
-//! is), `specs/Limits.antt` (how large a script may be) and `specs/Inputs.antt` (which lines stand before its limit).
+//! is), `specs/Inputs.antt` (what stands at a number of an input, and which lines stand before its limit) and
+//! `specs/Readers.antt` (what a reader does).
 #![tactic(auto)]
 
 mod failures;
-mod inputs;
+mod laws;
 mod limits;
-mod lines;
+mod line;
+mod line_reader;
 mod memory_input;
 mod memory_output;
 mod reading;
+mod slices;
 mod standard;
 mod traits;
 mod writing;
 
 pub use failures::{Failed, NoMemory, ReadFault, WriteFault};
-pub use inputs::{before_limit, whole_lines};
+pub use laws::a_number_has_one_line;
 pub use limits::{MAX_LINE_BYTES, MAX_SCRIPT_BYTES, MAX_SCRIPT_LINES};
-pub use lines::next_line;
+pub use line::Line;
+pub use line_reader::LineReader;
 pub use memory_input::{MemSource, SteadySource};
 pub use memory_output::MemSink;
 pub use reading::{Octets, Whole, WholeEnd, read_whole};
+pub use slices::{before_limit, next_line};
 pub use standard::{StdSink, StdSource};
 pub use traits::{Sink, Source};
 pub use writing::write_all;

@@ -3,7 +3,7 @@ ghost use Rattle.std.specs.Prelude.{◌≡◌, ℕ, ◌+◌, ◌-◌, ◌<◌, �
 ghost use Rattle.std.specs.Io.{ReadsAtMost};
 ghost use Rattle.std.specs.Io.KnownBytes.{ReadConsumes};
 ghost use Rattle.adsc_io.specs.Causes.{count_after, HasCause};
-ghost use Rattle.adsc_io.specs.Memory.{Reading, Steady, IsDue, moved, read_on, read_failed, steady_on};
+ghost use Rattle.adsc_io.specs.Memory.{MemoryInput, SteadyInput, IsDue, moved, read_on, read_failed, steady_on};
 
 use crate::failures::{Failed, NoMemory};
 use crate::traits::Source;
@@ -27,9 +27,9 @@ pub struct MemSource {
 
 impl Model for MemSource {
     ghost use Rattle.std.specs.Prelude.{◌<◌, ◌≤◌, drop, vec_len};
-    ghost use Rattle.adsc_io.specs.Memory.{Reading};
+    ghost use Rattle.adsc_io.specs.Memory.{MemoryInput};
 
-    ghost Value = { Reading };
+    ghost Value = { MemoryInput };
 
     ghost view = { λ s. record { left = drop s.at s.bytes.items; piece = s.piece; fails = s.fails.items; calls = s.calls; faults = s.faults } };
 
@@ -107,9 +107,9 @@ pub struct SteadySource {
 
 impl Model for SteadySource {
     ghost use Rattle.std.specs.Prelude.{◌<◌, ◌≤◌, drop, vec_len};
-    ghost use Rattle.adsc_io.specs.Memory.{Steady};
+    ghost use Rattle.adsc_io.specs.Memory.{SteadyInput};
 
-    ghost Value = { Steady };
+    ghost Value = { SteadyInput };
 
     ghost view = { λ s. record { left = drop s.at s.bytes.items; piece = s.piece } };
 

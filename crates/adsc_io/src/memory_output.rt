@@ -3,7 +3,7 @@ ghost use Rattle.std.specs.Prelude.{◌≡◌, ℕ, ◌+◌, ◌-◌, ◌<◌, �
 ghost use Rattle.std.specs.Io.{WritesAtMost};
 ghost use Rattle.std.specs.Io.KnownBytes.{WriteAppends};
 ghost use Rattle.adsc_io.specs.Causes.{HasCause};
-ghost use Rattle.adsc_io.specs.Memory.{Writing, IsRefused, moved, written_on, write_failed};
+ghost use Rattle.adsc_io.specs.Memory.{MemoryOutput, IsRefused, moved, written_on, write_failed};
 
 use crate::failures::{Failed, NoMemory};
 use crate::memory_input::is_due;
@@ -28,9 +28,9 @@ pub struct MemSink {
 
 impl Model for MemSink {
     ghost use Rattle.std.specs.Prelude.{◌+◌, ◌<◌, ◌≤◌, vec_len, vec_capacity};
-    ghost use Rattle.adsc_io.specs.Memory.{Writing};
+    ghost use Rattle.adsc_io.specs.Memory.{MemoryOutput};
 
-    ghost Value = { Writing };
+    ghost Value = { MemoryOutput };
 
     ghost view = { λ s. record { written = s.bytes.items; room = s.room; piece = s.piece; fails = s.fails.items; calls = s.calls; faults = s.faults } };
 

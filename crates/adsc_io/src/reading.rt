@@ -5,6 +5,7 @@ ghost use Rattle.adsc_io.specs.Whole.{EndsWhole};
 
 use crate::failures::{Failed, NoMemory};
 use crate::limits::MAX_SCRIPT_BYTES;
+use crate::line_reader::PIECE_BYTES;
 use crate::traits::Source;
 use std::alloc::Global;
 use std::marker::Model;
@@ -51,9 +52,6 @@ pub struct Whole {
     /// Why reading stopped.
     pub end: WholeEnd,
 }
-
-/// How many bytes one read asks for at most.
-const PIECE_BYTES: usize = 8_192;
 
 /// Reads a source to its end, to its first fault, or until one byte more than a script may have is read.
 ///

@@ -1,41 +1,155 @@
 //! Inputs and outputs from outside the proofs, and each call that takes memory once where memory is ample.
+ghost use Rattle.std.specs.Prelude.{None};
+
 use super::*;
+use std::alloc::Global;
 use std::test::Fail;
 
-#[test]
-fn lines_of_inputs(rt: HostRuntime) {
-    let table: [(&[u8], &[&[u8]]); 8] = [
-        (b"", &[]),
-        (b"\n", &[b""]),
-        (b"T,0", &[b"T,0"]),
-        (b"T,0\n", &[b"T,0"]),
-        (b"T,0\nT,1", &[b"T,0", b"T,1"]),
-        (b"T,0\n\nT,1\n", &[b"T,0", b"", b"T,1"]),
-        (b"\n\n", &[b"", b""]),
-        (b"A\r\nG", &[b"A\r", b"G"]),
-    ];
-    for (input, lines) in table {
-        let mut rest = input;
-        for line in lines {
-            let (found, behind) = next_line(rest).expect(&rt, "a line");
-            assert_eq!(rt; found, *line);
-            rest = behind;
-        }
-        assert!(rt; next_line(rest).is_none());
+/// A source that never ends and gives one letter alone. It tells no bytes.
+#[derive(Drop)]
+struct Endless;
+
+impl Source for Endless {
+    ghost left = { λ _. None };
+
+    ghost faults = { λ _. 0 };
+
+    fn read(&mut self, buf: &mut [u8]) -> Result<usize, Failed> {
+        buf.fill(b'A');
+        Ok(buf.len())
     }
 }
 
-#[test]
-fn whole_lines_end_at_the_last_newline(rt: HostRuntime) {
-    let table: [(&[u8], &[u8]); 4] = [
-        (b"", b""),
-        (b"a", b""),
-        (b"a\nb", b"a\n"),
-        (b"a\n\n", b"a\n\n"),
-    ];
-    for (bytes, whole) in table {
-        assert_eq!(rt; whole_lines(bytes), whole);
+/// The answers of a reader to its first, or all, calls: each line with its newline, `!` for a line that is too long, and `.` for the end.
+fn answers<S: Source>(alloc: Global, source: &mut S, calls: u32) -> Result<Vec<u8>, Fail> {
+    let mut reader = LineReader::new(alloc)?;
+    let mut answers = Vec::new(alloc);
+    for _ in 0..calls {
+        match reader.next(source) {
+            Ok(Line::Text) => {
+                answers.extend_from_slice(reader.text())?;
+                answers.push(b'\n')?;
+            }
+            Ok(Line::TooLong) => answers.push(b'!')?,
+            Ok(Line::End) => answers.push(b'.')?,
+            Ok(Line::Limit { .. }) => answers.push(b'#')?,
+            Err(ReadFault) => answers.push(b'?')?,
+        }
     }
+    Ok(answers)
+}
+
+#[test]
+fn lines_of_inputs(rt: HostRuntime) -> Result<(), Fail> {
+    let alloc = rt.alloc();
+    let table: [(&str, u32, &str); 8] = [
+        ("", 2, ".."),
+        ("\n", 2, "\n."),
+        ("T,0", 2, "T,0\n."),
+        ("T,0\n", 2, "T,0\n."),
+        ("T,0\nT,1", 4, "T,0\nT,1\n.."),
+        ("T,0\n\nT,1\n", 4, "T,0\n\nT,1\n."),
+        ("\n\n", 3, "\n\n."),
+        ("A\r\nG", 3, "A\r\nG\n."),
+    ];
+    for (input, calls, found) in table {
+        for piece in [1, 2, 4_096] {
+            let mut source = SteadySource::new(alloc, input.as_bytes(), piece)?;
+            assert_eq!(rt;
+                answers(alloc, &mut source, calls)?.as_slice(),
+                found.as_bytes(),
+                "at {input}"
+            );
+        }
+    }
+    Ok(())
+}
+
+#[test]
+fn lines_on_either_side_of_the_limit_of_a_line(rt: HostRuntime) -> Result<(), Fail> {
+    let alloc = rt.alloc();
+    for (length, short) in [
+        (4_095, true),
+        (4_096, true),
+        (4_097, false),
+        (40_000, false),
+    ] {
+        let mut line = Vec::new(alloc);
+        for _ in 0..length {
+            line.push(b'A')?;
+        }
+        line.push(b'\n')?;
+        let mut found = if short {
+            line.clone()?
+        } else {
+            Vec::from_slice(alloc, b"!")?
+        };
+        line.extend_from_slice(b"T,0")?;
+        found.extend_from_slice(b"T,0\n.")?;
+        for piece in [1, 2, 4_096] {
+            let mut source = SteadySource::new(alloc, line.as_slice(), piece)?;
+            assert_eq!(rt;
+                answers(alloc, &mut source, 3)?.as_slice(),
+                found.as_slice()
+            );
+        }
+    }
+    Ok(())
+}
+
+#[test]
+fn reading_goes_on_after_faults(rt: HostRuntime) -> Result<(), Fail> {
+    let alloc = rt.alloc();
+    let table: [(&[u64], usize, &str); 4] = [
+        (&[1], 100, "?ab\ncd\n."),
+        (&[1, 2, 4], 2, "???ab\n"),
+        (&[2], 4, "ab\n?cd\n."),
+        (&[3], 100, "ab\ncd\n.."),
+    ];
+    for (fails, piece, found) in table {
+        let mut source = MemSource::new(alloc, b"ab\ncd", piece, fails)?;
+        assert_eq!(rt;
+            answers(alloc, &mut source, 4)?.as_slice(),
+            &found.as_bytes()[..],
+            "at piece {piece}"
+        );
+    }
+    Ok(())
+}
+
+#[test]
+fn the_limit_of_lines(rt: HostRuntime) -> Result<(), Fail> {
+    let alloc = rt.alloc();
+    let mut input = Vec::new(alloc);
+    for _ in 0..200_000 {
+        input.extend_from_slice(b"x\n")?;
+    }
+    for (more, answer) in [
+        ("", Line::End),
+        ("\n", Line::Limit { line: 200_001 }),
+        ("y", Line::Limit { line: 200_001 }),
+    ] {
+        let mut bytes = input.clone()?;
+        bytes.extend_from_slice(more.as_bytes())?;
+        let mut source = SteadySource::new(alloc, bytes.as_slice(), 30_000)?;
+        let mut reader = LineReader::new(alloc)?;
+        for _ in 0..200_000 {
+            assert_eq!(rt; reader.next(&mut source), Ok(Line::Text));
+        }
+        assert_eq!(rt; reader.number(), 200_000);
+        assert_eq!(rt; reader.next(&mut source), Ok(answer));
+        assert_eq!(rt; reader.next(&mut source), Ok(answer));
+    }
+    Ok(())
+}
+
+#[test]
+fn the_limit_of_bytes(rt: HostRuntime) -> Result<(), Fail> {
+    let mut reader = LineReader::new(rt.alloc())?;
+    for _ in 0..2 {
+        assert_eq!(rt; reader.next(&mut Endless), Ok(Line::Limit { line: 1 }));
+    }
+    Ok(())
 }
 
 #[test]

@@ -4,12 +4,13 @@ use Rattle.std.specs.List.{flat_map}
 use Rattle.std.proofs.lemmas.List.{take_at, drop_at, nil_from_length}
 use Rattle.std.proofs.lemmas.Bool.Decides.{nat_tests}
 use Rattle.adsc_requests.specs.Tables.{is_message_tag, is_request_tag, is_modulus_tag, allows, data_size, value_reason}
-use Rattle.adsc_requests.specs.Contents.{Group, Content, has_tag, put, put_all, by_tag}
-use Rattle.adsc_requests.specs.Grammar.{group_octets, message_octets, joined, IsGroupOf, AreGroups, IsBegun, IsWhole, AreWhole, asks_nothing, ordered}
-use Rattle.adsc_requests.specs.Reading.{◌>>=◌, stop, octet_at, data_at, with_data_at, group_at, groups_at, event_at, request_at, cancel_at, message_at, messages_at}
-use Rattle.adsc_requests.specs.declared.stop.Stop.{Stop}
+use Rattle.adsc_requests.specs.Contents.{Group, Content, has_tag}
+use Rattle.adsc_requests.specs.Grammar.{group_octets, message_octets, joined, IsGroupOf, AreGroups, IsBegun, IsWhole, AreWhole, asks_nothing}
+use Rattle.adsc_requests.specs.Reading.{put, ◌>>=◌, stop, octet_at, data_at, with_data_at, group_at, groups_at, event_at, request_at, cancel_at, message_at, messages_at}
+use Rattle.adsc_requests.specs.declared.decoding.stop.Stop.{Stop}
 use Rattle.adsc_requests.proofs.Collecting.{on_bool}
 use Rattle.adsc_requests.proofs.ReadingLemmas.{has_tag-put}
+use Rattle.adsc_requests.proofs.ByTag.{put_all, by_tag, ordered}
 
 -- ---- tags
 
@@ -21,7 +22,7 @@ pub allowed_in_request : (m t : ℕ) → allows m t ≡ true → is_request_tag 
 unfolding allows is_modulus_tag is_request_tag
 allowed_in_request m t allowed = grind (arith, nat_tests, allowed)
 
--- a message ends here: nothing follows, or a message tag
+-- A message ends here: nothing follows, or a message tag.
 abbrev pub EndsMessage : List ℕ → Type 0
 EndsMessage [] = Unit {0}
 EndsMessage (t ∷ octets) = is_message_tag t ≡ true
@@ -45,7 +46,7 @@ group_at-full m number read g rest is new =
 
 -- ---- groups
 
--- reading goes on behind groups that stand by the grammar
+-- Reading goes on behind groups that stand by the grammar.
 pub groups_at-along : (k m number : ℕ) (earlier gs read : List Group) (rest : List ℕ) → AreGroups m earlier gs
     → ((t : ℕ) → has_tag t earlier ≡ has_tag t read) → length (flat_map group_octets gs ++ rest) ≤ k
     → (j : ℕ) × (length rest ≤ j) × (groups_at k m number read (flat_map group_octets gs ++ rest) ≡ groups_at j m number (put_all read gs) rest)
@@ -77,7 +78,7 @@ no_groups : (m : ℕ) (gs : List Group) → is_request_tag m ≡ false → AreGr
 no_groups m [] other are = refl
 no_groups m (g ∷ gs) other are = absurd (true≢false (sym (allowed_in_request m g.tag (are.0).allowed) ∙ other))
 
--- a request behind its tag: reading goes to where its groups end, or stop
+-- A request behind its tag: reading goes to where its groups end, or stop.
 pub request_at-stops : (m number : ℕ) (gs : List Group) (rest : List ℕ) (s : Stop) → AreGroups m [] gs
     → ((j : ℕ) → length rest ≤ j → groups_at j m number (by_tag gs) rest ≡ Err s)
     → request_at m (number ∷ (flat_map group_octets gs ++ rest)) ≡ Err s
@@ -202,14 +203,14 @@ whole_cancel_all p t number gs rest all zeroed none =
     let one : t ≡ 1 = grind (arith, nat_tests, all) in
     ap (message_at p) (unnumbered_octets t number gs rest all) ∙ rw (none, zeroed, one) refl
 
--- a cancel is read, whatever follows
+-- A cancel is read, whatever follows.
 pub message_at-cancels : (p : ℕ) (m : Content) (rest : List ℕ) → IsBegun m → is_request_tag m.tag ≡ false
     → message_at p (message_octets m ++ rest) ≡ Ok (ordered m, rest)
 message_at-cancels p m rest begun other = on_bool (m.tag == 1)
     (λ all. whole_cancel_all p m.tag m.number m.groups rest all (begun.unnumbered (let one : m.tag ≡ 1 = grind (arith, nat_tests, all) in one)) (no_groups m.tag m.groups other begun.grouped))
     (λ not_all. whole_cancel p m.tag m.number m.groups rest begun.known other not_all (no_groups m.tag m.groups other begun.grouped))
 
--- a whole message is read, whatever follows that ends it
+-- A whole message is read, whatever follows that ends it.
 pub message_at-whole : (p : ℕ) (m : Content) (rest : List ℕ) → IsWhole m → EndsMessage rest
     → message_at p (message_octets m ++ rest) ≡ Ok (ordered m, rest)
 message_at-whole p m rest whole ends = on_bool (is_request_tag m.tag)
@@ -239,7 +240,7 @@ messages_start [] rest whole ends = ends
 messages_start (m ∷ ms) rest whole ends =
     subst EndsMessage (sym (append_assoc (message_octets m) (joined ms) rest)) (message_starts m (joined ms ++ rest) ((whole.0).begun).known)
 
--- behind whole messages a stop is met as it is
+-- Behind whole messages a stop is met as it is.
 pub messages_at-stops : (ms : List Content) (n k p : ℕ) (rest : List ℕ) (s : Stop) → n ≡ length ms + k → AreWhole ms → EndsMessage rest
     → ((q : ℕ) → messages_at k q rest ≡ Err s) → messages_at n p (joined ms ++ rest) ≡ Err s
 messages_at-stops [] n k p rest s count whole ends stops = let same : n ≡ k = omega arith in ap (λ i. messages_at i p rest) same ∙ stops p

@@ -1,14 +1,15 @@
 -- Groups that are collected by rising tag from a function: which tags they have, and one group more.
 use Rattle.std.proofs.Common.{◌≡◌, ℕ, suc, ◌<◌, ◌≤◌, List, [], ◌∷◌, ◌++◌, Bool, true, false, ◌||◌, ◌&&◌, ◌==◌, Option, Some, None, is_some, refl, sym, ◌∙◌, ap, subst, arith}
 use Rattle.std.proofs.lemmas.Bool.Decides.{nat_tests}
-use Rattle.adsc_requests.specs.Contents.{Group, has_tag, put, group_if, collected_from, collected, group_tags}
+use Rattle.adsc_requests.specs.Contents.{Group, has_tag, group_if, collected_from, collected, group_tags}
+use Rattle.adsc_requests.specs.Reading.{put}
 
--- by cases on a test
+-- By cases on a test.
 pub on_bool : {P : Type 0} (b : Bool) → (b ≡ true → P) → (b ≡ false → P) → P
 on_bool true yes_case no_case = yes_case refl
 on_bool false yes_case no_case = no_case refl
 
--- the tags rise, from low on
+-- The tags rise, from low on.
 abbrev pub Rising : ℕ → List ℕ → Type 0
 Rising low [] = Unit {0}
 Rising low (t ∷ ts) = (low ≤ t) × Rising (suc t) ts
@@ -32,7 +33,7 @@ low_is_not_among low t (s ∷ ss) rises below =
     let later : is_among t ss ≡ false = low_is_not_among (suc s) t ss rises.1 (omega arith) in
     grind (arith, nat_tests, later)
 
--- at one tag: it is the one that is looked for, or another
+-- At one tag: it is the one that is looked for, or another.
 has_tag-step : (t s : ℕ) (o p : Option (List ℕ)) (rest : List Group) (among : Bool) → ((s == t) ≡ true → p ≡ o)
     → has_tag t rest ≡ among && is_some o → has_tag t (group_if s p ++ rest) ≡ ((s == t) || among) && is_some o
 has_tag-step t s o p rest among same later = by (s == t) refl
@@ -90,7 +91,7 @@ put_at : (s : ℕ) (octets : List ℕ) (o p : Option (List ℕ)) (rest : List Gr
 put_at s octets None p rest none some below = ap (λ q. group_if s q ++ rest) some ∙ sym below
 put_at s octets (Some x) p rest none some below = cc
 
--- the group at the first tag
+-- The group at the first tag.
 put_first : (d e : ℕ → Option (List ℕ)) (s : ℕ) (octets : List ℕ) (ss : List ℕ) → Rising (suc s) ss
     → d s ≡ None → e s ≡ Some octets → ((q : ℕ) → (q == s) ≡ false → e q ≡ d q)
     → collected_from e (s ∷ ss) ≡ put (record { tag = s; octets = octets }) (collected_from d (s ∷ ss))
@@ -126,7 +127,7 @@ put_collected_from d e t low octets (s ∷ ss) rises among none some others = on
     ∙ ap (λ rest. group_if s (d s) ++ rest) (put_collected_from d e t (suc s) octets ss rises.1 later none some others)
     ∙ sym (put-behind g s (d s) (collected_from d ss) (omega arith)))
 
--- a group of a new tag is put among the collected ones
+-- A group of a new tag is put among the collected ones.
 pub collected-put : (d e : ℕ → Option (List ℕ)) (t : ℕ) (octets : List ℕ) → is_among t group_tags ≡ true
     → has_tag t (collected d) ≡ false → e t ≡ Some octets → ((s : ℕ) → (s == t) ≡ false → e s ≡ d s)
     → collected e ≡ put (record { tag = t; octets = octets }) (collected d)

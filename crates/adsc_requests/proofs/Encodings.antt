@@ -3,16 +3,17 @@ use Rattle.std.proofs.Common.{◌≡◌, ℕ, zero, suc, ◌+◌, ◌-◌, ◌%�
 use Rattle.std.proofs.Math.Seq.{take-append-add}
 use Rattle.std.proofs.lemmas.Bool.Decides.{nat_tests}
 use Rattle.adsc_requests.specs.Tables.{is_message_tag, is_request_tag, allows, data_size, field_size, value_reason, repeat_reason}
-use Rattle.adsc_requests.specs.Contents.{Group, Content, has_tag, put, put_all, by_tag}
-use Rattle.adsc_requests.specs.Grammar.{message_octets, joined, IsBegun, AreWhole, asks_nothing, ordered, EncodesContents}
+use Rattle.adsc_requests.specs.Contents.{Group, Content, has_tag}
+use Rattle.adsc_requests.specs.Grammar.{message_octets, joined, IsBegun, AreWhole, asks_nothing, EncodesContents}
 use Rattle.adsc_requests.specs.Faults.{Next, FirstMessage, Number, GroupOrMessage, Field, IsOpenPrefix, nothing_read, tag_read, message_begun, group_begun, reason_at, number_read}
-use Rattle.adsc_requests.specs.Reading.{stop, octet_at, data_at, with_data_at, group_at, groups_at, request_at, cancel_at, message_at, messages_at, uplink_at}
-use Rattle.adsc_requests.specs.declared.stop.Stop.{Stop}
+use Rattle.adsc_requests.specs.Reading.{put, stop, octet_at, data_at, with_data_at, group_at, groups_at, request_at, cancel_at, message_at, messages_at, uplink_at}
+use Rattle.adsc_requests.specs.declared.decoding.stop.Stop.{Stop}
 use Rattle.adsc_requests.proofs.Collecting.{on_bool}
 use Rattle.adsc_requests.proofs.ReadingLemmas.{has_tag-put}
-use Rattle.adsc_requests.proofs.MessagesLemmas.{some_payload}
+use Rattle.adsc_requests.proofs.MessageLoop.{some_payload}
 use Rattle.adsc_requests.proofs.Rows.{row_repeat, row_group, row_nothing, row_fifth, row_message, row_stranger, row_end_nothing, row_end, row_cut, row_value, row_field}
 use Rattle.adsc_requests.proofs.Along.{EndsMessage, allowed_is_no_message, allowed_in_request, message_at-request, message_at-stranger, message_at-cancel, message_at-stops, message_at-nothing, message_at-cancels, message_at-whole, message_starts, message_has_octets, messages_at-some, messages_at-stops, messages_at-whole}
+use Rattle.adsc_requests.proofs.ByTag.{put_all, by_tag, ordered, each_asked_is_ordered}
 
 -- ---- encodings
 
@@ -25,7 +26,7 @@ encoding_is_read contents payload e =
     ap uplink_at e.octets
     ∙ some_payload (joined e.standing) (joined_has_octets e.standing e.some)
     ∙ messages_at-whole e.standing 4 0 e.whole e.few
-    ∙ ap (λ (ms : List Content). Ok ms) (sym e.asked)
+    ∙ ap (λ (ms : List Content). Ok ms) (sym (each_asked_is_ordered e.standing contents e.whole e.asked))
 
 -- ---- faults
 
@@ -35,7 +36,7 @@ same_some a b e = cc
 none_is_not_some : (r : ℕ) → None ≡ Some r → ⊥
 none_is_not_some r e = cc
 
--- a payload that stops in the message behind whole ones
+-- A payload that stops in the message behind whole ones.
 stops_behind : (before : List Content) (front rest tail payload : List ℕ) (s : Stop) → AreWhole before → length before < 4
     → payload ≡ front ++ rest → front ++ rest ≡ joined before ++ tail → 1 ≤ length tail → EndsMessage tail
     → ((k q : ℕ) → k + length before ≡ 3 → messages_at (suc k) q tail ≡ Err s)
@@ -45,11 +46,11 @@ stops_behind before front rest tail payload s whole few parts same some ends sto
     ∙ some_payload (joined before ++ tail) (omega (arith, length-append (joined before) tail))
     ∙ messages_at-stops before 4 (suc (3 - length before)) 0 tail s (omega arith) whole ends (λ q. stops (3 - length before) q (omega arith))
 
--- where reading one message stops, reading messages stops
+-- Where reading one message stops, reading messages stops.
 one_stops : (k q : ℕ) (tail : List ℕ) (s : Stop) → 1 ≤ length tail → message_at q tail ≡ Err s → messages_at (suc k) q tail ≡ Err s
 one_stops k q tail s some stops = messages_at-some k q tail some ∙ rw stops refl
 
--- no number behind a tag
+-- No number behind a tag.
 no_number : (q tag : ℕ) → is_message_tag tag ≡ true → (tag == 1) ≡ false → message_at q (tag ∷ []) ≡ Err (stop 0 9 0)
 unfolding cancel_at request_at octet_at
 no_number q tag known not_all = on_bool (is_request_tag tag)
@@ -127,12 +128,12 @@ unfolding messages_at
 messages_stop_at_fifth zero number t octets none known = rw known refl
 messages_stop_at_fifth (suc k) number t octets none known = absurd (omega arith)
 
--- behind a message that is read, reading messages stops where it does
+-- Behind a message that is read, reading messages stops where it does.
 next_stops : (k q : ℕ) (m : Content) (rest : List ℕ) (s : Stop) → message_at q (message_octets m ++ rest) ≡ Ok (ordered m, rest)
     → messages_at k m.number rest ≡ Err s → messages_at (suc k) q (message_octets m ++ rest) ≡ Err s
 next_stops k q m rest s reads stops = messages_at-some k q (message_octets m ++ rest) (message_has_octets m rest) ∙ rw (reads, stops) refl
 
--- in the message that is being read
+-- In the message that is being read.
 stops_in : (before : List Content) (m : Content) (front rest payload : List ℕ) (s : Stop) → AreWhole before → length before < 4 → IsBegun m
     → front ≡ joined before ++ message_octets m → payload ≡ front ++ rest
     → ((k q : ℕ) → k + length before ≡ 3 → messages_at (suc k) q (message_octets m ++ rest) ≡ Err s)
@@ -142,7 +143,7 @@ stops_in before m front rest payload s whole few begun octets parts stops =
     (ap (λ f. f ++ rest) octets ∙ append_assoc (joined before) (message_octets m) rest)
     (message_has_octets m rest) (message_starts m rest begun.known) stops
 
--- the message that is being read stops
+-- The message that is being read stops.
 stops_in_one : (before : List Content) (m : Content) (front rest payload : List ℕ) (s : Stop) → AreWhole before → length before < 4 → IsBegun m
     → front ≡ joined before ++ message_octets m → payload ≡ front ++ rest
     → ((q : ℕ) → message_at q (message_octets m ++ rest) ≡ Err s)
@@ -151,7 +152,7 @@ stops_in_one before m front rest payload s whole few begun octets parts stops =
     stops_in before m front rest payload s whole few begun octets parts
     (λ k q count. one_stops k q (message_octets m ++ rest) s (message_has_octets m rest) (stops q))
 
--- which row of the table applies behind a message that has begun, and the stop there
+-- Which row of the table applies behind a message that has begun, and the stop there.
 stop_at_tag : (before : List Content) (m : Content) (front : List ℕ) (t : ℕ) (octets payload : List ℕ) (reason : ℕ) → AreWhole before → length before < 4 → IsBegun m
     → front ≡ joined before ++ message_octets m → payload ≡ front ++ t ∷ octets
     → reason_at (GroupOrMessage (length before + 1) m) (t ∷ octets) ≡ Some reason
@@ -208,7 +209,7 @@ fault_at_more before m front (t ∷ octets) payload reason whole few begun front
 
 -- ---- a fault in the data of a group
 
--- whole fields are left out of the count of what is left
+-- Whole fields are left out of the count of what is left.
 left_of_cut : (t fields rest : ℕ) → fields % field_size t ≡ 0 → rest < field_size t → (fields + rest) % field_size t ≡ rest
 unfolding field_size
 left_of_cut t fields rest whole cut = on_bool (t == 19)
@@ -257,7 +258,7 @@ fault_at_field before m t fields front rest payload reason whole few begun allow
     (λ j enough. groups_stop_in_data j m.tag m.number (by_tag m.groups) t (fields ++ rest) _ enough allowed (has_tag-by_tag t m.groups ∙ new)
     (data_at-fault m t m.number fields rest reason fields_whole within applies)))
 
--- a first fault stops reading there, with the octets that are left
+-- A first fault stops reading there, with the octets that are left.
 pub fault_stops_reading : (payload front rest : List ℕ) (next : Next) (reason : ℕ) → payload ≡ front ++ rest → IsOpenPrefix front next
     → reason_at next rest ≡ Some reason → uplink_at payload ≡ Err (stop (length rest) reason (number_read next))
 fault_stops_reading payload front rest _ reason parts (nothing_read none) applies = fault_at_start front rest payload reason none parts applies

@@ -20,7 +20,7 @@ use Rattle.adsc_requests.specs.declared.message.Uplink.{Uplink}
 use Rattle.std.proofs.Common.{Result, Ok, append-nil}
 use Rattle.adsc_requests.specs.Grammar.{message_octets}
 use Rattle.adsc_requests.specs.Reading.{message_at}
-use Rattle.adsc_requests.specs.declared.stop.Stop.{Stop}
+use Rattle.adsc_requests.specs.declared.decoding.stop.Stop.{Stop}
 use Rattle.adsc_requests.proofs.ReadingLemmas.{same_ok}
 use Rattle.adsc_requests.proofs.Along.{message_at-whole}
 use Rattle.adsc_requests.proofs.Collecting.{on_bool, is_among}
@@ -138,7 +138,7 @@ unfolding find_octets
 find-here t s None rest is later = later refl
 find-here t s (Some x) rest is later = rw is refl
 
--- the octets of a tag that isn't there are not found
+-- The octets of a tag that isn't there are not found.
 find-nothing : (d : ℕ → Option (List ℕ)) (t : ℕ) (ts : List ℕ) → d t ≡ None → find_octets t (collected_from d ts) ≡ None
 unfolding find_octets
 find-nothing d t [] none = refl
@@ -156,7 +156,7 @@ find-collected_from d t (s ∷ ss) among = on_bool (s == t)
     find-here t s (d s) (collected_from d ss) is (λ h. find-nothing d t ss (sym (ap d same) ∙ h)) ∙ ap d same)
     (λ other. find-group_if t s (d s) (collected_from d ss) other ∙ find-collected_from d t ss (grind (arith, nat_tests, other, among)))
 
--- functions of which the same groups are collected give the same octets
+-- Functions of which the same groups are collected give the same octets.
 same_octets : (d e : ℕ → Option (List ℕ)) (t : ℕ) → is_among t group_tags ≡ true → collected d ≡ collected e → d t ≡ e t
 unfolding collected
 same_octets d e t among same =
@@ -244,7 +244,7 @@ same_events a b same =
     (same_mapped range_octets same_range_octets a.range b.range (same_octets d e 19 refl same))
     (same_flag a.waypoint b.waypoint (same_octets d e 20 refl same))
 
--- messages that ask the same are equal
+-- Messages that ask the same are equal.
 pub same_message : (a b : Message) → content_of a ≡ content_of b → a ≡ b
 same_message CancelAll CancelAll e = refl
 same_message (Cancel n) (Cancel n') e = ap Cancel (ap (λ (c : Content). c.number) e)
@@ -301,7 +301,7 @@ same_messages (m ∷ ms) (n ∷ ns) e =
     rest : (x y : Content) (xs ys : List Content) → x ∷ xs ≡ y ∷ ys → xs ≡ ys
     rest x y xs ys e = cc
 
--- uplinks that ask the same are equal
+-- Uplinks that ask the same are equal.
 pub same_contents : (a b : Uplink) → contents_of a ≡ contents_of b → a ≡ b
 same_contents a b e = same_uplink a b (same_messages a.messages.items b.messages.items e)
 
@@ -316,7 +316,7 @@ written_reads m =
     ∙ message_at-whole 0 (content_of m) [] (message_is_whole m) tt
     ∙ ap (λ (c : Content). Ok (c, [])) (message_in_order m)
 
--- messages with the same octets are equal
+-- Messages with the same octets are equal.
 pub same_written : (a b : Message) → message_octets (content_of a) ≡ message_octets (content_of b) → a ≡ b
 same_written a b same =
     same_message a b (content (content_of a) (content_of b) (sym (written_reads a) ∙ ap (message_at 0) same ∙ written_reads b))

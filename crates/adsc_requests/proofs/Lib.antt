@@ -1,7 +1,8 @@
 pub mod Collecting
-pub mod AskedLemmas
+pub mod GatheredLemmas
 pub mod ReadingLemmas
-pub mod MessagesLemmas
+pub mod MessageLoop
+pub mod ByTag
 pub mod Rows
 pub mod Along
 pub mod Encodings

@@ -7,12 +7,13 @@ use Rattle.std.proofs.Math.Seq.{take-add}
 use Rattle.std.proofs.lemmas.Bool.Decides.{nat_tests}
 use Rattle.adsc_requests.specs.Tables.{is_message_tag, allows, data_size, field_size, value_reason, repeat_reason}
 use Rattle.adsc_requests.specs.Contents.{Group, Content, has_tag}
-use Rattle.adsc_requests.specs.Grammar.{group_octets, head_octets, message_octets, joined, IsGroupOf, AreGroups, IsBegun, IsWhole, AreWhole, asks_nothing, ordered, EncodesContents}
+use Rattle.adsc_requests.specs.Grammar.{group_octets, head_octets, message_octets, joined, IsGroupOf, AreGroups, IsBegun, IsWhole, AreWhole, asks_nothing, EncodesContents}
 use Rattle.adsc_requests.specs.Faults.{Next, FirstMessage, Number, GroupOrMessage, Field, IsOpenPrefix, nothing_read, tag_read, message_begun, group_begun, reason_at, number_read, IsFirstFault}
 use Rattle.adsc_requests.proofs.Collecting.{on_bool}
 use Rattle.adsc_requests.proofs.Rows.{row_repeat, row_nothing, row_fifth, row_stranger, row_end_nothing, row_cut, row_value, number_row}
+use Rattle.adsc_requests.proofs.ByTag.{ordered, each_asks_ordered}
 
--- an encoding of some messages, or a first fault
+-- An encoding of some messages, or a first fault.
 abbrev pub Outcome : List ℕ → Type 0
 Outcome payload =
     ((contents : List Content) × EncodesContents contents payload)
@@ -46,7 +47,7 @@ encoding_here payload before m whole few one parts = inl (
     some = omega (arith, length-append before (m ∷ []));
     few = omega (arith, length-append before (m ∷ []));
     octets = parts ∙ sym (joined-last before m);
-    asked = refl;
+    asked = each_asks_ordered (before ++ m ∷ []) (AreWhole-last before m whole one);
   },
 )
 
@@ -82,7 +83,7 @@ with_group_begun m g begun one new = record {
 
 -- ---- the data of a group
 
--- the whole fields of data that is cut short
+-- The whole fields of data that is cut short.
 cut_fields : (t n : ℕ) → n < data_size t → ((n / field_size t * field_size t) % field_size t ≡ 0)
     × (n / field_size t * field_size t + field_size t ≤ data_size t) × (n / field_size t * field_size t ≤ n) × (n < n / field_size t * field_size t + field_size t)
 unfolding field_size data_size
@@ -97,7 +98,7 @@ cut_fields t n short = on_bool (t == 19)
         → ((n / 1 * 1) % 1 ≡ 0) × (n / 1 * 1 + 1 ≤ (if t == 20 then 0 else if t == 21 then 2 else 1)) × (n / 1 * 1 ≤ n) × (n < n / 1 * 1 + 1)
     one h = (omega arith, omega arith, omega arith, omega arith)
 
--- where a table refuses the data of a group, it has a last field behind whole fields
+-- Where a table refuses the data of a group, it has a last field behind whole fields.
 refused_fields : (t : ℕ) (octets : List ℕ) (reason : ℕ) → value_reason t octets ≡ Some reason
     → ((data_size t - field_size t) % field_size t ≡ 0) × (field_size t ≤ data_size t)
 unfolding field_size data_size value_reason
@@ -143,7 +144,7 @@ fault_in_value payload before m t octets reason whole few begun allowed new part
 
 -- ---- on from a message that has begun
 
--- what is to show behind a message that has begun
+-- What is to show behind a message that has begun.
 abbrev Goes : ℕ → List ℕ → Type 0
 Goes left payload = (before : List Content) (m : Content) (rest : List ℕ) → AreWhole before → length before < 4 → IsBegun m
     → payload ≡ (joined before ++ message_octets m) ++ rest → length rest ≤ left → Outcome payload
@@ -156,7 +157,7 @@ message_octets-bare : (t number : ℕ) → (t == 1) ≡ false → message_octets
 unfolding message_octets
 message_octets-bare t number not_all = rw not_all refl
 
--- a message begins with a tag that has a number
+-- A message begins with a tag that has a number.
 numbered_begins : (left : ℕ) (payload : List ℕ) (before : List Content) (t : ℕ) (octets : List ℕ) → Goes left payload → AreWhole before → length before < 4
     → is_message_tag t ≡ true → (t == 1) ≡ false → payload ≡ joined before ++ (t ∷ octets) → length octets ≤ left → Outcome payload
 numbered_begins left payload before t [] goes whole few known not_all parts bound =
@@ -174,7 +175,7 @@ numbered_begins left payload before t (n ∷ octets) goes whole few known not_al
     tag_is : (t : ℕ) → t ≡ 1 → (t == 1) ≡ true
     tag_is t is = rw is refl
 
--- a message begins
+-- A message begins.
 message_begins : (left : ℕ) (payload : List ℕ) (before : List Content) (t : ℕ) (octets : List ℕ) → Goes left payload → AreWhole before → length before < 4
     → is_message_tag t ≡ true → payload ≡ joined before ++ (t ∷ octets) → length octets ≤ left → Outcome payload
 message_begins left payload before t octets goes whole few known parts bound = on_bool (t == 1)
@@ -186,7 +187,7 @@ message_begins left payload before t octets goes whole few known parts bound = o
     bound)
     (λ not_all. numbered_begins left payload before t octets goes whole few known not_all parts bound)
 
--- a group of the message begins
+-- A group of the message begins.
 group_begins : (left : ℕ) (payload : List ℕ) (before : List Content) (m : Content) (t : ℕ) (octets : List ℕ) → Goes left payload → AreWhole before → length before < 4 → IsBegun m
     → allows m.tag t ≡ true → has_tag t m.groups ≡ false → payload ≡ (joined before ++ message_octets m) ++ t ∷ octets → length octets ≤ left → Outcome payload
 group_begins left payload before m t octets goes whole few begun allowed new parts bound = on_bool (nat_lt (length octets) (data_size t))
@@ -207,7 +208,7 @@ group_begins left payload before m t octets goes whole few begun allowed new par
         ∙ ap (λ x. joined before ++ x) (sym (with_group_octets m (record { tag = t; octets = take (data_size t) octets })))))
         (omega (arith, length-drop (data_size t) octets))
 
--- the next message begins
+-- The next message begins.
 next_begins : (left : ℕ) (payload : List ℕ) (before : List Content) (m : Content) (t : ℕ) (octets : List ℕ) → Goes left payload → AreWhole before → length before < 4 → IsWhole m
     → (length before + 1 == 4) ≡ false → is_message_tag t ≡ true → payload ≡ (joined before ++ message_octets m) ++ t ∷ octets → length octets ≤ left → Outcome payload
 next_begins left payload before m t octets goes whole few one not_four known parts bound =
@@ -215,7 +216,7 @@ next_begins left payload before m t octets goes whole few one not_four known par
     message_begins left payload (before ++ m ∷ []) t octets goes (AreWhole-last before m whole one) few_more known
     (parts ∙ ap (λ x. x ++ (t ∷ octets)) (sym (joined-last before m))) bound
 
--- behind a message that has begun an octet follows
+-- Behind a message that has begun an octet follows.
 octet_follows : (left : ℕ) (payload : List ℕ) (before : List Content) (m : Content) (t : ℕ) (octets : List ℕ) → Goes left payload → AreWhole before → length before < 4 → IsBegun m
     → payload ≡ (joined before ++ message_octets m) ++ t ∷ octets → length octets ≤ left → Outcome payload
 octet_follows left payload before m t octets goes whole few begun parts bound = on_bool (allows m.tag t)

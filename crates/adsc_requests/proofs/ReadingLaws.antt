@@ -4,7 +4,7 @@ use Rattle.adsc_requests.specs.Contents.{Content, contents_of}
 use Rattle.adsc_requests.specs.Grammar.{EncodesContents}
 use Rattle.adsc_requests.specs.Faults.{IsFirstFault}
 use Rattle.adsc_requests.specs.Reading.{stop, uplink_at}
-use Rattle.adsc_requests.specs.declared.stop.Stop.{Stop}
+use Rattle.adsc_requests.specs.declared.decoding.stop.Stop.{Stop}
 use Rattle.adsc_requests.specs.declared.refusal.Refusal.{Refusal}
 use Rattle.adsc_requests.specs.Refusals.{IsFirstUplinkFault, HasUplink, HasFault, HasContents}
 use Rattle.adsc_requests.proofs.Rows.{reason_range}
@@ -21,7 +21,7 @@ err_same a b r p q = cc
 ok_not_err : (a : List Content) (s : Stop) (r : Result (List Content) Stop) → r ≡ Ok a → r ≡ Err s → ⊥
 ok_not_err a s r p q = cc
 
--- a first fault stops reading, with what is left from its place on
+-- A first fault stops reading, with what is left from its place on.
 pub fault_is_read : (payload : List ℕ) (at reason number : ℕ) → IsFirstFault payload at reason number
     → (left : ℕ) × (at + left ≡ length payload) × (uplink_at payload ≡ Err (stop left reason number))
 fault_is_read payload at reason number f = (
@@ -39,7 +39,7 @@ read_is_encoding payload contents reads =
     absurd (ok_not_err contents _ (uplink_at payload) reads (fault_is_read payload o.0 o.1 o.2 o.3).2))
     (one_or_other payload)
 
--- where reading stops is the first fault
+-- Where reading stops is the first fault.
 pub record StopIsFault (payload : List ℕ) (s : Stop) : Type 0 where
   pub at : ℕ
   pub place : at + s.left ≡ length payload
@@ -55,16 +55,16 @@ stop_is_fault payload s reads =
     subst (λ (x : Stop). StopIsFault payload x) same (record { at = o.0; place = read.1; fault = o.3 }))
     (one_or_other payload)
 
--- a payload is not both
+-- A payload is not both.
 pub never_both : (payload : List ℕ) (contents : List Content) (at reason number : ℕ) → EncodesContents contents payload → IsFirstFault payload at reason number → ⊥
 never_both payload contents at reason number e f =
     ok_not_err contents _ (uplink_at payload) (encoding_is_read contents payload e) (fault_is_read payload at reason number f).2
 
--- a payload encodes no two lists of messages
+-- A payload encodes no two lists of messages.
 pub one_reading : (payload : List ℕ) (a b : List Content) → EncodesContents a payload → EncodesContents b payload → a ≡ b
 one_reading payload a b ea eb = ok_same a b (uplink_at payload) (encoding_is_read a payload ea) (encoding_is_read b payload eb)
 
--- a payload has no two first faults
+-- A payload has no two first faults.
 pub one_fault : (payload : List ℕ) (at reason number at' reason' number' : ℕ) → IsFirstFault payload at reason number → IsFirstFault payload at' reason' number'
     → (at ≡ at') × (reason ≡ reason') × (number ≡ number')
 one_fault payload at reason number at' reason' number' f f' =
@@ -82,7 +82,7 @@ encoding_size payload contents e = omega (arith, ap length e.octets, joined_size
 pub refusal_same : (a b : Refusal) → a.bit ≡ b.bit → a.reason ≡ b.reason → a.number ≡ b.number → a.octet ≡ b.octet → a ≡ b
 refusal_same a b bit reason number octet = λ i. record { bit = bit i; reason = reason i; number = number i; octet = octet i }
 
--- a payload has no two refusals
+-- A payload has no two refusals.
 pub one_refusal : (payload : List ℕ) (a b : Refusal) → IsFirstUplinkFault a payload → IsFirstUplinkFault b payload → a ≡ b
 one_refusal payload a b fa fb =
     let same = one_fault payload fa.at a.reason a.number fb.at b.reason b.number fa.fault fb.fault in

@@ -1,15 +1,15 @@
 -- What the reading of a group gives.
 use Rattle.std.proofs.Common.{◌≡◌, ℕ, zero, suc, ◌+◌, ◌-◌, ◌%◌, ◌<◌, ◌≤◌, List, [], ◌∷◌, length, take, drop, Bool, true, false, cond, ◌||◌, nat_lt, ◌==◌, Option, Some, None, Result, Ok, Err, refl, sym, ◌∙◌, ap, subst, arith, length-drop, ◌⊎◌, inl, inr, ⊎_elim, get_or, take_all, true≢false}
 use Rattle.std.proofs.lemmas.Bool.Decides.{nat_tests}
-use Rattle.adsc_requests.specs.Tables.{is_message_tag, is_modulus_tag, is_group_tag, allows, data_size, field_size, value_reason, repeat_reason}
-use Rattle.adsc_requests.specs.Contents.{Group, has_tag, put}
-use Rattle.adsc_requests.specs.Asking.{AreAllowed}
-use Rattle.adsc_requests.specs.Reading.{◌>>=◌, stop, admitted_or, data_at, with_data_at, group_at, groups_at}
-use Rattle.adsc_requests.specs.declared.stop.Stop.{Stop}
+use Rattle.adsc_requests.specs.Tables.{is_message_tag, is_modulus_tag, is_request_group_tag, allows, data_size, field_size, value_reason, repeat_reason}
+use Rattle.adsc_requests.specs.Contents.{Group, has_tag}
+use Rattle.adsc_requests.specs.Gathered.{AreAllowed}
+use Rattle.adsc_requests.specs.Reading.{put, ◌>>=◌, stop, admitted_or, data_at, with_data_at, group_at, groups_at}
+use Rattle.adsc_requests.specs.declared.decoding.stop.Stop.{Stop}
 use Rattle.adsc_requests.proofs.Collecting.{on_bool}
 
-pub allowed_is_group : (m t : ℕ) → allows m t ≡ true → is_group_tag t ≡ true
-unfolding allows is_group_tag is_modulus_tag
+pub allowed_is_group : (m t : ℕ) → allows m t ≡ true → is_request_group_tag t ≡ true
+unfolding allows is_request_group_tag is_modulus_tag
 allowed_is_group m t allowed = grind (arith, nat_tests, allowed)
 
 pub no_waypoint_data : (number : ℕ) (octets : List ℕ) → data_at 20 number octets ≡ Ok ([], octets)
@@ -75,7 +75,7 @@ AreAllowed-put m g gs allowed all = record {
         absurd (true≢false (sym allowed ∙ ap (allows m) same ∙ other)))
         (λ is. is)
 
--- a group that is read leaves no more than there was, and keeps that only allowed groups are read
+-- A group that is read leaves no more than there was, and keeps that only allowed groups are read.
 pub group_at-gives : (m number : ℕ) (gs : List Group) (t : ℕ) (octets : List ℕ) (x : List Group × List ℕ) → group_at m number gs t octets ≡ Ok x
     → (length x.1 ≤ length octets) × (AreAllowed m gs → AreAllowed m x.0)
 unfolding group_at with_data_at

@@ -2,7 +2,7 @@
 use Rattle.std.proofs.Common.{◌≡◌, ℕ, ◌+◌, ◌*◌, ◌≤◌, List, [], ◌∷◌, ◌++◌, length, Bool, true, false, cond, not, ◌||◌, ◌&&◌, ◌==◌, refl, sym, ap, subst, arith, length-append}
 use Rattle.std.specs.List.{flat_map}
 use Rattle.std.proofs.lemmas.Bool.Decides.{nat_tests}
-use Rattle.adsc_requests.specs.Tables.{is_modulus_tag, is_group_tag, allows, data_size}
+use Rattle.adsc_requests.specs.Tables.{is_modulus_tag, is_request_group_tag, allows, data_size}
 use Rattle.adsc_requests.specs.Contents.{Group, Content, has_tag, group_tags}
 use Rattle.adsc_requests.specs.Grammar.{group_octets, head_octets, message_octets, joined, IsGroupOf, AreGroups, IsBegun, AreWhole}
 use Rattle.adsc_requests.specs.Faults.{Next, IsOpenPrefix, nothing_read, tag_read, message_begun, group_begun, IsFirstFault}
@@ -32,15 +32,15 @@ total-less f g s w (t ∷ ts) among below less = on_bool (t == s)
 
 -- ---- what a message's groups can still take
 
--- the octets that the group of a tag can still take behind others
+-- The octets that the group of a tag can still take behind others.
 abbrev room_of : ℕ → List Group → ℕ → ℕ
 room_of m earlier t = cond (allows m t && not (has_tag t earlier)) (1 + data_size t) 0
 
 abbrev room : ℕ → List Group → ℕ
 room m earlier = total (room_of m earlier) group_tags
 
-group_is_among : (t : ℕ) → is_group_tag t ≡ true → is_among t group_tags ≡ true
-unfolding is_group_tag
+group_is_among : (t : ℕ) → is_request_group_tag t ≡ true → is_among t group_tags ≡ true
+unfolding is_request_group_tag
 group_is_among t is = grind (arith, nat_tests, is)
 
 room_falls : (m : ℕ) (g : Group) (earlier : List Group) (t : ℕ) → room_of m (g ∷ earlier) t ≤ room_of m earlier t
@@ -67,7 +67,7 @@ room-step m g earlier one new =
     let full : length g.octets ≡ data_size g.tag = one.full in
     omega (arith, less, full)
 
--- the groups in front of those that were earlier
+-- The groups in front of those that were earlier.
 abbrev behind : List Group → List Group → List Group
 behind earlier [] = earlier
 behind earlier (g ∷ gs) = behind (g ∷ earlier) gs
@@ -100,7 +100,7 @@ unfolding message_octets
 message_size m begun =
     omega (arith, length-append (head_octets m) (flat_map group_octets m.groups), head_size m, groups_room m.tag [] m.groups begun.grouped, room_of_all m.tag)
 
--- with a group more of which the data is full
+-- With a group more of which the data is full.
 pub message_size_more : (m : Content) (t : ℕ) → IsBegun m → allows m.tag t ≡ true → has_tag t m.groups ≡ false → length (message_octets m) + 1 + data_size t ≤ 19
 unfolding message_octets
 message_size_more m t begun allowed new =
@@ -133,6 +133,6 @@ open_size front _ (group_begun before m tag fields whole few begun allowed new f
       within,
     )
 
--- a fault stands at octet 77 or before
+-- A fault stands at octet 77 or before.
 pub fault_place : (payload : List ℕ) (at reason number : ℕ) → IsFirstFault payload at reason number → at ≤ 76
 fault_place payload at reason number fault = omega (arith, fault.place, open_size fault.front fault.next fault.sound)

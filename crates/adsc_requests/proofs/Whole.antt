@@ -8,19 +8,21 @@ use Rattle.std.proofs.lemmas.Int.{ints, to_z-of_z}
 use Rattle.std.proofs.lemmas.Nat.{from_be_bytes-to_be_bytes_2}
 use Rattle.adsc_requests.specs.Watching.{is_not_zero}
 use Rattle.adsc_requests.specs.Tables.{is_message_tag, is_modulus_tag, allows, data_size, value_reason, signed_16}
-use Rattle.adsc_requests.specs.Contents.{Group, Content, has_tag, put, put_all, by_tag, group_if, collected, collected_from, group_tags, single, octet_8, octets_16, range_octets, intent_octets, report_octets, event_octets, tag_of, number_of, groups_of, content_of, contents_of}
-use Rattle.adsc_requests.specs.Grammar.{IsGroupOf, AreGroups, IsWhole, AreWhole, asks_nothing, ordered, EncodesContents, uplink_octets}
+use Rattle.adsc_requests.specs.Contents.{Group, Content, has_tag, group_if, collected, collected_from, group_tags, single, octet_8, octets_16, range_octets, intent_octets, report_octets, event_octets, tag_of, number_of, groups_of, content_of, contents_of}
+use Rattle.adsc_requests.specs.Reading.{put}
+use Rattle.adsc_requests.specs.Grammar.{IsGroupOf, AreGroups, IsWhole, AreWhole, asks_nothing, AskEach, EncodesContents, uplink_octets}
 use Rattle.adsc_requests.specs.declared.message.Intent.{Intent}
 use Rattle.adsc_requests.specs.declared.message.Range.{Range}
 use Rattle.adsc_requests.specs.declared.message.Message.{Message}
 use Rattle.adsc_requests.specs.declared.message.Message.TheVariants.{CancelAll, Cancel, CancelEmergency, Periodic, Event, Emergency}
 use Rattle.adsc_requests.specs.declared.message.Uplink.{Uplink}
 use Rattle.adsc_requests.proofs.Collecting.{on_bool, Rising, group_tags_rise}
-use Rattle.adsc_requests.proofs.AskedLemmas.{events_are_watched}
+use Rattle.adsc_requests.proofs.GatheredLemmas.{events_are_watched}
+use Rattle.adsc_requests.proofs.ByTag.{put_all, by_tag, ordered, each_asks_ordered}
 
 -- ---- collected groups stand by rising tag
 
--- all tags are below
+-- All tags are below.
 abbrev AllBelow : ℕ → List Group → Type 0
 AllBelow low [] = Unit {0}
 AllBelow low (g ∷ gs) = (g.tag < low) × AllBelow low gs
@@ -68,7 +70,7 @@ by_tag-collected d = put_all-collected d 10 group_tags [] group_tags_rise tt
 
 -- ---- collected groups stand by the grammar
 
--- what a function gives is the data of groups of a message
+-- What a function gives is the data of groups of a message.
 abbrev AreData : ℕ → (ℕ → Option (List ℕ)) → Type 0
 AreData m d = (t : ℕ) (o : List ℕ) → d t ≡ Some o → IsGroupOf m (record { tag = t; octets = o })
 
@@ -102,7 +104,7 @@ same_some a b e = cc
 none_is_not_some : {A : Type 0} (a : A) → None ≡ Some a → ⊥
 none_is_not_some a e = cc
 
--- what is mapped is there
+-- What is mapped is there.
 mapped : {A : Type 0} (f : A → List ℕ) (o : Option A) (x : List ℕ) → option_map f o ≡ Some x → (a : A) × (o ≡ Some a) × (f a ≡ x)
 mapped f None x e = absurd (none_is_not_some x e)
 mapped f (Some a) x e = (a, refl, same_some (f a) x e)
@@ -292,7 +294,7 @@ length-contents : (ms : List Message) → length (map content_of ms) ≡ length 
 length-contents [] = refl
 length-contents (m ∷ ms) = ap suc (length-contents ms)
 
--- what is written for an uplink encodes it
+-- What is written for an uplink encodes it.
 pub written_encodes : (u : Uplink) → EncodesContents (contents_of u) (uplink_octets u)
 written_encodes u = record {
   standing = contents_of u;
@@ -300,5 +302,5 @@ written_encodes u = record {
   some = omega (arith, length-contents u.messages.items, u.some);
   few = omega (arith, length-contents u.messages.items, u.few);
   octets = refl;
-  asked = messages_in_order u.messages.items;
+  asked = subst (AskEach (contents_of u)) (sym (messages_in_order u.messages.items)) (each_asks_ordered (contents_of u) (messages_are_whole u.messages.items));
 }

@@ -9,7 +9,7 @@ use Rattle.adsc_requests.specs.declared.message.Message.{Message}
 use Rattle.adsc_requests.specs.declared.message.Message.TheVariants.{CancelAll, Cancel, CancelEmergency, Periodic, Event, Emergency}
 use Rattle.adsc_requests.specs.declared.message.Uplink.{Uplink}
 
--- a group: its tag, and the octets of its data
+-- A group: its tag, and the octets of its data.
 pub record Group : Type 0 where
   pub tag : ℕ
   pub octets : List ℕ
@@ -20,25 +20,10 @@ pub record Content : Type 0 where
   pub number : ℕ
   pub groups : List Group
 
--- ---- groups by rising tag
-
+-- Whether one of the groups has this tag.
 abbrev pub has_tag : ℕ → List Group → Bool
 has_tag t [] = false
 has_tag t (g ∷ gs) = (g.tag == t) || has_tag t gs
-
--- the group put before the first one of a greater tag
-abbrev pub put : Group → List Group → List Group
-put g [] = g ∷ []
-put g (h ∷ hs) = if nat_lt g.tag h.tag then g ∷ h ∷ hs else h ∷ put g hs
-
--- each of the groups put into a list
-abbrev pub put_all : List Group → List Group → List Group
-put_all into [] = into
-put_all into (g ∷ gs) = put_all (put g into) gs
-
--- the groups by rising tag
-abbrev pub by_tag : List Group → List Group
-by_tag gs = put_all [] gs
 
 -- ---- what the fields of a message are as groups
 
@@ -50,18 +35,18 @@ abbrev pub collected_from : (ℕ → Option (List ℕ)) → List ℕ → List Gr
 collected_from octets [] = []
 collected_from octets (t ∷ ts) = group_if t (octets t) ++ collected_from octets ts
 
--- the tags of all groups, rising
+-- The tags of all groups, rising.
 abbrev pub group_tags : List ℕ
 group_tags = 10 ∷ 11 ∷ 12 ∷ 13 ∷ 14 ∷ 15 ∷ 16 ∷ 17 ∷ 18 ∷ 19 ∷ 20 ∷ 21 ∷ []
 
--- the groups, by rising tag, of which a function gives the octets
+-- The groups, by rising tag, of which a function gives the octets.
 unfoldable pub collected : (ℕ → Option (List ℕ)) → List Group
 collected octets = collected_from octets group_tags
 
 abbrev pub single : ℕ → List ℕ
 single n = n ∷ []
 
--- a signed octet, and a signed field of 16 bits: two's complement, the most significant octet first
+-- A signed octet, and a signed field of 16 bits: two's complement, the most significant octet first.
 abbrev pub octet_8 : ℤ → List ℕ
 octet_8 z = cast_unsigned w8 z ∷ []
 
@@ -74,7 +59,7 @@ intent_octets i = i.modulus ∷ i.minutes ∷ []
 abbrev pub range_octets : Range → List ℕ
 range_octets r = octets_16 r.ceiling ++ octets_16 r.floor
 
--- the octets of each group of a periodic or an emergency request
+-- The octets of each group of a periodic or an emergency request.
 unfoldable pub report_octets : Option ℕ → List (Option ℕ) → Option Intent → ℕ → Option (List ℕ)
 report_octets interval moduli intent t =
     if t == 11 then option_map single interval
@@ -82,7 +67,7 @@ report_octets interval moduli intent t =
     else if is_modulus_tag t then option_map single (slice_index_or moduli (t - 12) None)
     else None
 
--- the octets of each group of an event request
+-- The octets of each group of an event request.
 unfoldable pub event_octets : Option ℕ → Option ℤ → Option Range → Bool → ℕ → Option (List ℕ)
 event_octets lateral vrate range waypoint t =
     if t == 10 then option_map single lateral
@@ -118,6 +103,6 @@ groups_of (Emergency n interval groups intent) = collected (report_octets interv
 abbrev pub content_of : Message → Content
 content_of m = record { tag = tag_of m; number = number_of m; groups = groups_of m }
 
--- what an uplink asks: its messages in their order
+-- What an uplink asks: its messages in their order.
 abbrev pub contents_of : Uplink → List Content
 contents_of u = map content_of u.messages.items

@@ -7,13 +7,13 @@ use Rattle.adsc_requests.specs.Grammar.{message_octets, joined, IsBegun, AreWhol
 
 -- What may stand next behind a sound beginning.
 pub data Next : Type 0 where
-  -- the first message must begin
+  -- The first message must begin.
   FirstMessage : Next
-  -- a message of this tag is being read, and its number must stand
+  -- A message of this tag is being read, and its number must stand.
   Number : ℕ → Next
-  -- so many messages have begun, and this one is being read: a group of it or the next message may begin
+  -- So many messages have begun, and this one is being read: a group of it or the next message may begin.
   GroupOrMessage : ℕ → Content → Next
-  -- in this message a group of this tag is being read, of whose data these fields were read: a field must stand
+  -- In this message a group of this tag is being read, of whose data these fields were read: a field must stand.
   Field : Content → ℕ → List ℕ → Next
 
 -- The octets are whole tags, numbers and data fields in an order of the grammar, at none of whose places a row
@@ -33,27 +33,27 @@ pub data IsOpenPrefix (octets : List ℕ) : Next → Type 0 where
 
 -- The table of faults: the reason of the row that applies at a place where something stands next, and rest follows.
 unfoldable pub reason_at : Next → List ℕ → Option ℕ
--- a message must begin: not enough data, or not a message tag
+-- A message must begin: not enough data, or not a message tag.
 reason_at FirstMessage [] = Some 9
 reason_at FirstMessage (t ∷ rest) = if is_message_tag t then None else Some 7
--- a number must stand: not enough data
+-- A number must stand: not enough data.
 reason_at (Number tag) [] = Some 9
 reason_at (Number tag) (n ∷ rest) = None
--- the payload ends behind an event request without a group
+-- The payload ends behind an event request without a group.
 reason_at (GroupOrMessage begun m) [] = if asks_nothing m then Some 3 else None
--- a group may begin that was already read; a message tag behind an event request without a group; a fifth
--- message; neither a group of this message nor a message tag
+-- A group may begin that was already read; a message tag behind an event request without a group; a fifth
+-- message; neither a group of this message nor a message tag.
 reason_at (GroupOrMessage begun m) (t ∷ rest) =
     if allows m.tag t then (if has_tag t m.groups then Some (repeat_reason t) else None)
     else if is_message_tag t then (if asks_nothing m then Some 3 else if begun == 4 then Some 8 else None)
     else Some 7
--- the field isn't wholly there; or it is the last of its group, and a table refuses the group's data
+-- The field isn't wholly there; or it is the last of its group, and a table refuses the group's data.
 reason_at (Field m tag fields) rest =
     if nat_lt (length rest) (field_size tag) then Some 9
     else if length fields + field_size tag == data_size tag then value_reason tag (fields ++ take (field_size tag) rest)
     else None
 
--- the number of the message that is being read: 0 before the first message, and where the number was not read
+-- The number of the message that is being read: 0 before the first message, and where the number was not read.
 abbrev pub number_read : Next → ℕ
 number_read FirstMessage = 0
 number_read (Number tag) = 0

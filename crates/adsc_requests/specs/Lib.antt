@@ -3,8 +3,8 @@ pub mod Tables
 pub mod Contents
 pub mod Grammar
 pub mod Faults
-pub mod Asking
+pub mod Gathered
 pub mod Reading
 pub mod Refusals
 pub mod Writing
-pub mod Kinds
+pub mod Kind

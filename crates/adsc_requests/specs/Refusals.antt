@@ -14,14 +14,14 @@ pub record IsFirstUplinkFault (r : Refusal) (payload : List ℕ) : Type 0 where
   pub bit : r.bit ≡ 8 * at
   pub octet : r.octet ≡ at + 1
 
--- some uplink has this payload as an encoding
+-- Some uplink has this payload as an encoding.
 abbrev pub HasUplink : List ℕ → Type 0
 HasUplink payload = (u : Uplink) × EncodesUplink u payload
 
--- the payload has a first fault
+-- The payload has a first fault.
 abbrev pub HasFault : List ℕ → Type 0
 HasFault payload = (r : Refusal) × IsFirstUplinkFault r payload
 
--- the payload is an encoding of some messages, seen as what they ask
+-- The payload is an encoding of some messages, seen as what they ask.
 abbrev pub HasContents : List ℕ → Type 0
 HasContents payload = (contents : List Content) × EncodesContents contents payload

@@ -4,39 +4,39 @@
 use Rattle.std.specs.Prelude.{ℕ, List, Bool, false, ◌&&◌, ◌||◌, ◌==◌, nat_le, Option, Some, None, if◌then◌else◌, slice_index, take, drop, ℤ, int_lt}
 use Rattle.std.specs.Int.{w16, from_be_bytes, cast_signed}
 
--- cancel all, cancel, cancel emergency mode; periodic, event and emergency periodic request
+-- The tags of messages: cancel all 1, cancel 2, cancel emergency mode 6; periodic request 7, event request 8, emergency periodic request 9.
 unfoldable pub is_message_tag : ℕ → Bool
 is_message_tag t = (t == 1) || (t == 2) || (t == 6) || (t == 7) || (t == 8) || (t == 9)
 
--- periodic, event and emergency periodic request: the messages that have groups
+-- The tags of requests, which are the messages that have groups: periodic 7, event 8, emergency periodic 9.
 unfoldable pub is_request_tag : ℕ → Bool
 is_request_tag t = (t == 7) || (t == 8) || (t == 9)
 
--- the reporting modulus groups
+-- The tags of the reporting modulus groups are 12 to 17.
 unfoldable pub is_modulus_tag : ℕ → Bool
 is_modulus_tag t = nat_le 12 t && nat_le t 17
 
--- the groups of all messages
-unfoldable pub is_group_tag : ℕ → Bool
-is_group_tag t = nat_le 10 t && nat_le t 21
+-- The tags of the groups of all requests are 10 to 21.
+unfoldable pub is_request_group_tag : ℕ → Bool
+is_request_group_tag t = nat_le 10 t && nat_le t 21
 
--- the groups of a message, by the message's tag and the group's
+-- Which groups a message may have, by the message's tag and the group's.
 unfoldable pub allows : ℕ → ℕ → Bool
 allows m t =
     if (m == 7) || (m == 9) then (t == 11) || is_modulus_tag t || (t == 21)
     else if m == 8 then (t == 10) || (t == 18) || (t == 19) || (t == 20)
     else false
 
--- how many octets the data of a group has
+-- How many octets the data of a group has.
 unfoldable pub data_size : ℕ → ℕ
 data_size t = if t == 19 then 4 else if t == 20 then 0 else if t == 21 then 2 else 1
 
--- how many octets each field of a group's data has: the ceiling and the floor are two fields of two octets, the
--- modulus and the minutes of an intent are two fields of one
+-- How many octets each field of a group's data has: the ceiling and the floor are two fields of two octets, the
+-- modulus and the minutes of an intent are two fields of one.
 unfoldable pub field_size : ℕ → ℕ
 field_size t = if t == 19 then 2 else 1
 
--- the value of a signed field of 16 bits, from its two octets
+-- The value of a signed field of 16 bits, from its two octets.
 abbrev pub signed_16 : List ℕ → ℤ
 signed_16 octets = cast_signed w16 (from_be_bytes w16 octets)
 
@@ -50,6 +50,6 @@ value_reason t octets =
     else if t == 21 then (if slice_index octets 1 == 0 then Some 12 else None)
     else None
 
--- the reason of a group that was already read: the reporting interval has a reason of its own
+-- The reason of a group that was already read: the reporting interval has a reason of its own.
 unfoldable pub repeat_reason : ℕ → ℕ
 repeat_reason t = if t == 11 then 2 else 1

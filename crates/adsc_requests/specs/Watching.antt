@@ -2,7 +2,7 @@
 use Rattle.std.specs.Prelude.{Bool, not, ◌||◌, Option, is_some, ℤ, pos}
 use Rattle.std.specs.Ordering.{int_eq}
 
--- an event request watches something: a limit, or the active waypoint
+-- An event request watches something: a limit, or the active waypoint.
 abbrev pub is_watching : {A B C : Type 0} → Option A → Option B → Option C → Bool → Bool
 is_watching lateral vrate range waypoint = is_some lateral || is_some vrate || is_some range || waypoint
 

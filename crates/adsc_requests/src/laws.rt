@@ -6,7 +6,7 @@ ghost use Rattle.adsc_requests.specs.Refusals.{IsFirstUplinkFault, HasUplink, Ha
 ghost use Rattle.adsc_requests.specs.declared.message.Uplink.{Uplink as UplinkValue};
 ghost use Rattle.adsc_requests.specs.declared.refusal.Refusal.{Refusal as RefusalValue};
 
-use crate::decode::decode_uplink;
+use crate::decoding::decode_uplink;
 
 /// Each payload is an encoding of an uplink or has a first fault, and never both.
 pub fn uplink_or_fault(payload: &[u8])
@@ -19,21 +19,22 @@ pub fn uplink_or_fault(payload: &[u8])
     }
 }
 
-/// The same of every list of numbers, in terms of what messages ask: the grammar and the table of faults leave
-/// nothing out. A payload has at most one first fault, which stands at octet 77 or before, and is an encoding of
-/// at most one uplink.
+/// The same of every list of numbers, in terms of what messages ask: the grammar and the table of
+/// faults leave nothing out. A payload has at most one first fault, which stands at octet 77 or
+/// before, and is an encoding of at most one uplink.
 pub fn grammar_or_fault()
     ensures one { (payload : List ℕ) → HasContents payload ⊎ HasFault payload }
     ensures never_both { (payload : List ℕ) → HasContents payload → HasFault payload → ⊥ }
     ensures one_fault { (payload : List ℕ) (a b : RefusalValue) →
         IsFirstUplinkFault a payload → IsFirstUplinkFault b payload → a ≡ b }
-    ensures near { (payload : List ℕ) (r : RefusalValue) → IsFirstUplinkFault r payload → r.octet ≤ 77 }
+    ensures near { (payload : List ℕ) (r : RefusalValue) →
+        IsFirstUplinkFault r payload → r.octet ≤ 77 }
     ensures one_uplink { (payload : List ℕ) (a b : UplinkValue) →
         EncodesUplink a payload → EncodesUplink b payload → a ≡ b }
 {}
 
-/// What is written for an uplink, with the groups of each message by rising tag, is an encoding of it of at
-/// most 76 octets.
+/// What is written for an uplink, with the groups of each message by rising tag, is an encoding of
+/// it of at most 76 octets.
 pub fn written_is_encoding()
     ensures encoding { (u : UplinkValue) → EncodesUplink u (uplink_octets u) }
     ensures size { (u : UplinkValue) → length (uplink_octets u) ≤ 76 }

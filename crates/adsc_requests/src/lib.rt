@@ -1,38 +1,33 @@
-//! The requests that a ground system sends to an aircraft under ADS-C, and the payload octets that carry them, after
-//! RTCA DO-258A / EUROCAE ED-100A in this project's profile.
+//! The requests that a ground system sends to an aircraft under ADS-C, and the payload octets that
+//! carry them, after RTCA DO-258A / EUROCAE ED-100A in this project's profile.
 //!
-//! An uplink is one to four messages: cancels, periodic and emergency periodic requests, event requests.
-//! [`decode_uplink`] reads a payload as the one uplink that it encodes, or answers its first fault with the bit,
-//! reason, number and octet that a negative acknowledgement carries to the ground. [`encode_uplink`] writes an uplink.
-//! [`kind_of`] and [`interval_seconds`] tell what a request asks for.
+//! An uplink is one to four messages: cancels, periodic and emergency periodic requests, event
+//! requests. [`decode_uplink`] reads a payload as the one uplink that it encodes, or answers its
+//! first fault with the bit, reason, number and octet that a negative acknowledgement carries to
+//! the ground. [`encode_uplink`] writes an uplink. [`kind_of`] and [`interval_seconds`] tell what a
+//! request asks for.
 //!
-//! Above this crate stand the aircraft's contracts, the ground's table of requests, and the reading of script lines.
-//! Begin with the types in `message.rt`, then `specs/Grammar.antt` for what an encoding is and `specs/Faults.antt` for
-//! what a first fault is; both cite the tables of `specs/Tables.antt`. That each payload is one or the other is a law
-//! over these definitions (`laws.rt`). The decoder's private functions have exact contracts by `specs/Reading.antt`,
-//! a function on lists that reads from left to right; `proofs/ReadingLaws.antt` ties it to the definitions.
+//! Above this crate stand the aircraft's contracts, the ground's table of requests, and the reading
+//! of script lines. Begin with the types in `message.rt`, then `specs/Grammar.antt` for what an
+//! encoding is and `specs/Faults.antt` for what a first fault is; both cite the tables of
+//! `specs/Tables.antt`. That each payload is one or the other is a law over these definitions
+//! (`laws.rt`). The decoder's private functions have exact contracts by `specs/Reading.antt`, a
+//! function on lists that reads from left to right; `proofs/ReadingLaws.antt` ties it to the
+//! definitions.
 #![tactic(auto)]
 
-mod asked;
-mod asking;
-mod decode;
-mod encode;
-mod fields;
-mod groups;
+mod decoding;
+mod encoding;
 mod kind;
-mod kinds;
 mod laws;
 mod message;
-mod messages;
 pub mod reason;
 mod refusal;
-mod stop;
 mod tags;
 
-pub use decode::decode_uplink;
-pub use encode::{encode_uplink, is_same_message};
-pub use kind::Kind;
-pub use kinds::{interval_seconds, kind_of};
+pub use decoding::decode_uplink;
+pub use encoding::{encode_uplink, is_same_message};
+pub use kind::{Kind, interval_seconds, kind_of};
 pub use laws::{grammar_or_fault, uplink_or_fault, written_is_encoding};
 pub use message::{Intent, Limits, Message, Moduli, Range, Uplink};
 pub use refusal::Refusal;

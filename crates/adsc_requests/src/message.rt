@@ -59,8 +59,8 @@ pub struct Limits {
 /// `n` is the contract number that its sender chose.
 #[derive(Clone, Copy, Debug, Default, PartialEq, Eq)]
 pub enum Message {
-    /// Cancel all contracts and terminate the connection (tag 1). It has no number. The default, which
-    /// stands in the unused places of an [`Uplink`].
+    /// Cancel all contracts and terminate the connection (tag 1). It has no number. The default,
+    /// which stands in the unused places of an [`Uplink`].
     #[default]
     CancelAll,
     /// Cancel the contract with this number (tag 2).

@@ -1,4 +1,5 @@
-//! The reasons of refusals, as a negative acknowledgement carries them (RTCA DO-258A / EUROCAE ED-100A).
+//! The reasons of refusals, as a negative acknowledgement carries them (RTCA DO-258A / EUROCAE
+//! ED-100A).
 
 /// Duplicate group tag.
 pub const DUPLICATE_GROUP: u8 = 1;

@@ -16,7 +16,8 @@ pub(crate) const EVENT: u8 = 8;
 
 pub(crate) const EMERGENCY: u8 = 9;
 
-// The tags of groups. Six tags stand one behind the other for the moduli of the report groups 12 to 17.
+// The tags of groups. Six tags stand one behind the other for the moduli of the report groups 12 to
+// 17.
 pub(crate) const LATERAL: u8 = 10;
 
 pub(crate) const INTERVAL: u8 = 11;

@@ -168,7 +168,8 @@ fn cut_vectors(rt: HostRuntime) {
     );
 }
 
-/// A second payload for each reason, and the places where two rows of the table come near each other.
+/// A second payload for each reason, and the places where two rows of the table come near each
+/// other.
 #[test]
 fn reasons(rt: HostRuntime) {
     refused(

@@ -51,10 +51,10 @@ stops_here over stage number lines said NoMemory begins head step = tt
 
 -- what three lines make is one setting
 pub setting_of_three : (setting : Setting) (who : Who) (addresses : List (List ℕ)) (first : FlightSample) → setting.registration ≡ who.registration
-    → setting.flight ≡ who.flight → setting.airframe ≡ who.airframe → setting.addresses ≡ addresses → setting.first ≡ first
+    → setting.flight ≡ who.flight → setting.airframe ≡ who.airframe → setting.profile ≡ who.profile → setting.addresses ≡ addresses → setting.first ≡ first
     → setting_with who addresses first ≡ setting
-setting_of_three setting who addresses first registration flight airframe listed sample i =
-    record { registration = sym registration i; flight = sym flight i; airframe = sym airframe i; addresses = sym listed i; first = sym sample i }
+setting_of_three setting who addresses first registration flight airframe profile listed sample i =
+    record { registration = sym registration i; flight = sym flight i; airframe = sym airframe i; profile = sym profile i; addresses = sym listed i; first = sym sample i }
 
 pub two_go_on : (over : Bool) (a b c : Stage) (m n k : ℕ) (one two three : List (List ℕ)) → GoesOn over a m one b n two → GoesOn over b n two c k three → GoesOn over a m one c k three
 two_go_on over a b c m n k one two three first second run rest = first run (second run rest)

@@ -29,7 +29,7 @@ use Rattle.adsc_run.specs.Readings.{ReadsLine}
 use Rattle.adsc_run.specs.Runs.{Run, IsRun, LinesRun, StepRuns, after, end_behind, ended_run}
 use Rattle.adsc_run.specs.Steps.{Stage, begun, named, linked, flying, Step, goes, ends, enters, refuses, link_from, same_text, registration_place, payload_step, uplink_step, text_step, line_step, step_of}
 use Rattle.adsc_run.specs.Taken.{Did, DidLine}
-use Rattle.adsc_io.proofs.LimitLaws.{before_more}
+use Rattle.adsc_io.proofs.LimitLaws.{before_more, over_by_bytes}
 
 -- runs of what is before, of which the first part was done so
 abbrev pub RunsOn : Bool → Setting → ℕ → List (List ℕ) → List Entry → List RefusedLine → List (List ℕ) → Type 0
@@ -169,7 +169,7 @@ text_goes setting number (text.Ads uplink) = uplink_goes setting number uplink (
 line_goes : (stage : Stage) (number : ℕ) (value : ScriptLine) → is_done (line_step stage number value) ≡ false
 unfolding is_done
 line_goes begun number (line.A who) = refl
-line_goes (named who) number (line.G addresses) = at (length addresses.items == 1)
+line_goes (named who) number (line.G addresses reserved) = at (length addresses.items == 1)
   where
     at : (b : Bool) → is_done (if b then goes (linked who addresses.items) [] [] else ends NotBuilt) ≡ false
     at true = refl
@@ -215,7 +215,7 @@ run_told (Some all) (Some more) bytes Over before now run read ended unfaulted i
     let long : max_script_bytes < length bytes = omega (arith, ended.over.0 refl) in
     subst (λ b. IsRun b run) (sym read) (record {
       over = is.over;
-      limit = (λ over. inl (omega (arith, long, length-append bytes more)), λ over. is.limit.1 (inl long));
+      limit = (λ over. over_by_bytes (bytes ++ more) (omega (arith, long, length-append bytes more)), λ over. is.limit.1 (over_by_bytes bytes long));
       lines = subst (λ ls. LinesRun is.over begun 1 ls run) (sym (before_more bytes more long)) is.lines;
     })
 
@@ -226,5 +226,5 @@ done_at_end rest bytes End before now run ended unfaulted is done = ended.at_end
 done_at_end rest bytes Fault before now run ended unfaulted is done = absurd (unfaulted refl)
 done_at_end rest bytes Over before now run ended unfaulted is done =
     let long : max_script_bytes < length bytes = omega (arith, ended.over.0 refl) in
-    let over : is.over ≡ true = is.limit.1 (inl long) in
+    let over : is.over ≡ true = is.limit.1 (over_by_bytes bytes long) in
     absurd (over_is_not_done begun 1 (lines_before_limit bytes) run (subst (λ b. LinesRun b begun 1 (lines_before_limit bytes) run) over is.lines) done)

@@ -10,18 +10,18 @@ use Rattle.adsc_requests.specs.declared.refusal.Refusal.{Refusal}
 use Rattle.adsc_requests.proofs.Injective.{same_contents}
 use Rattle.adsc_requests.proofs.ReadingLaws.{one_reading, uplink_never_fault}
 use Rattle.aircraft_core.specs.Entries.{are_demands, IsBuiltPayload}
-use Rattle.contract_rules.specs.Messages.{same_number}
+use Rattle.std.specs.Prelude.{nat_eq}
 use Rattle.contract_rules.proofs.Equality.{equality_of_lists}
 use Rattle.adsc_run.specs.Readings.{ReadsPayload}
 use Rattle.adsc_run.specs.Steps.{link_from, same_text}
 
 -- the test of texts is equality
 pub text_is : (one other : List ℕ) → one ≡ other → same_text one other ≡ true
-text_is one other same = (equality_of_lists same_number (λ m n. Decides-eqb m n) one other).1 same
+text_is one other same = (equality_of_lists nat_eq (λ m n. Decides-eqb m n) one other).1 same
 
 pub text_is_other : (one other : List ℕ) → (one ≡ other → ⊥) → same_text one other ≡ false
 text_is_other one other apart = elim (cases_Bool (same_text one other)) [
-  | inl same ↦ absurd (apart ((equality_of_lists same_number (λ m n. Decides-eqb m n) one other).0 same))
+  | inl same ↦ absurd (apart ((equality_of_lists nat_eq (λ m n. Decides-eqb m n) one other).0 same))
   | inr differs ↦ differs
 ]
 

@@ -8,8 +8,8 @@ use Rattle.aircraft_core.specs.declared.entry.Entry.{Entry}
 use Rattle.aircraft_core.specs.Entries.{line_of}
 use Rattle.aircraft_core.specs.Downlinks.{AreDownlinks}
 use Rattle.aircraft_core.specs.Setting.{Setting}
-use Rattle.shown_lines.specs.Fields.{number_field}
-use Rattle.shown_lines.specs.Texts.{envelope_fault_fields, request_fault_fields}
+use Rattle.output_fields.specs.Fields.{number_field}
+use Rattle.output_fields.specs.Faults.{envelope_fault_fields, request_fault_fields}
 use Rattle.adsc_run.specs.declared.end.End.{End}
 use Rattle.adsc_run.specs.declared.end.End.TheVariants.{Done, Bad, Limit, NotBuilt}
 use Rattle.adsc_run.specs.declared.refused.RefusedLine.{RefusedLine}

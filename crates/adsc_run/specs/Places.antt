@@ -1,6 +1,6 @@
 -- Where which lines may stand in a script (this project's profile).
 use Rattle.std.specs.Prelude.{◌⊎◌, ℕ, ◌==◌, List, Option, Some, None, if◌then◌else◌}
-use Rattle.net_script.specs.Faults.{HasLetter}
+use Rattle.net_script.specs.Letters.{HasLetter}
 use Rattle.net_script.specs.declared.letter.Letter.{Letter}
 use Rattle.net_script.specs.declared.letter.Letter.TheVariants.{Aircraft, Ground, Sample}
 use Rattle.net_script.specs.declared.refusal.Code.{Code}

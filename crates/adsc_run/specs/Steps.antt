@@ -1,6 +1,6 @@
 -- What a line of a script does (this project's profile).
-use Rattle.std.specs.Prelude.{ℕ, ◌+◌, ◌==◌, Bool, List, [], ◌∷◌, length, Option, Some, None, Result, Ok, Err, if◌then◌else◌}
-use Rattle.contract_rules.specs.Messages.{same_list, same_number}
+use Rattle.std.specs.Prelude.{ℕ, ◌+◌, ◌==◌, Bool, List, [], ◌∷◌, length, Option, Some, None, Result, Ok, Err, nat_eq, if◌then◌else◌}
+use Rattle.std.specs.Cmp.Lexicographic.{pointwise}
 use Rattle.adsc_requests.specs.declared.message.Uplink.{Uplink as UplinkMessages}
 use Rattle.adsc_requests.specs.declared.refusal.Refusal.{Refusal}
 use Rattle.flight_samples.specs.declared.sample.Sample.{Sample as FlightSample}
@@ -38,7 +38,7 @@ pub data Step : Type 0 where
 
 -- whether two texts are the same
 abbrev pub same_text : List ℕ → List ℕ → Bool
-same_text one other = same_list same_number one other
+same_text one other = pointwise nat_eq one other
 
 -- the link to an address: its place among these addresses, of which the first has the place `from`
 abbrev pub link_from : ℕ → List (List ℕ) → List ℕ → Option ℕ
@@ -82,13 +82,13 @@ text_step setting number (text.Ads uplink) = uplink_step setting number uplink (
 -- the aircraft that three lines make
 abbrev pub setting_with : Who → List (List ℕ) → FlightSample → Setting
 setting_with who addresses first =
-    record { registration = who.registration; flight = who.flight; airframe = who.airframe; addresses = addresses; first = first }
+    record { registration = who.registration; flight = who.flight; airframe = who.airframe; profile = who.profile; addresses = addresses; first = first }
 
 -- A line without a text. Several ground addresses are not built yet, nor are lines of the letters T, E, L, C, K, B and R. Nothing
 -- else can come here, since the head's letters are given and stand nowhere else.
 abbrev pub line_step : Stage → ℕ → ScriptLine → Step
 line_step begun number (line.A who) = goes (named who) [] []
-line_step (named who) number (line.G addresses) = if length addresses.items == 1 then goes (linked who addresses.items) [] [] else ends run.NotBuilt
+line_step (named who) number (line.G addresses reserved) = if length addresses.items == 1 then goes (linked who addresses.items) [] [] else ends run.NotBuilt
 line_step (linked who addresses) number (line.S sample) = goes (flying (setting_with who addresses sample)) [] []
 line_step (flying setting) number (line.S sample) = enters setting (Sample number sample)
 line_step stage number value = ends run.NotBuilt

@@ -16,6 +16,7 @@ use acars_envelope::Address;
 use adsc_io::NoMemory;
 use adsc_requests::{Refusal, Uplink};
 use aircraft_core::{Craft, Entry, asks_for_demands};
+use flight_samples::SampleReader;
 use net_script::{BadLine, ScriptLine};
 use std::alloc::Global;
 
@@ -33,6 +34,7 @@ impl Flight {
     /// Carries out the line of this number; answers how the run ends with it, if it does.
     pub(crate) fn take_line(
         &mut self,
+        samples: &mut SampleReader,
         alloc: Global,
         number: u32,
         line: &[u8],
@@ -41,7 +43,7 @@ impl Flight {
         requires unbroken { IsUnbroken line.now }
         ensures { IfOk result (DidLine number line.now self.old self.new) }
     {
-        match read_line(alloc, number, line)? {
+        match read_line(samples, alloc, number, line)? {
             Reading::Bad { code, value } => Ok(Some(End::Bad(BadLine {
                 line: number,
                 code,

@@ -11,7 +11,7 @@ use crate::reading::{Reading, read_line};
 use acars_envelope::{Address, Flight};
 use adsc_io::{NoMemory, next_line};
 use aircraft_core::{Craft, Who};
-use flight_samples::Sample;
+use flight_samples::{Sample, SampleReader};
 use net_script::{BadLine, Code, ScriptLine};
 use std::alloc::Global;
 
@@ -25,17 +25,22 @@ pub(crate) enum Stop {
 }
 
 /// The aircraft that the head makes.
-pub(crate) fn read_head(alloc: Global, lines: &[u8], over: bool) -> Result<Craft, Stop>
+pub(crate) fn read_head(
+    samples: &mut SampleReader,
+    alloc: Global,
+    lines: &[u8],
+    over: bool,
+) -> Result<Craft, Stop>
     ensures went { IfOk result (λ craft. GoesOn over begun 1 (script_lines lines.now) (flying craft.setting) 4 (drop 3 (script_lines lines.now))) }
     ensures link { IfOk result (λ craft. length craft.setting.addresses ≡ 1) }
     ensures first { IfOk result (λ craft. craft.journal ≡ []) }
     ensures ended { IfErr result (EndsHere over begun 1 (script_lines lines.now)) }
 {
-    let who = read_who(alloc, lines, over)?;
+    let who = read_who(samples, alloc, lines, over)?;
     let second = behind_line(lines);
-    let address = read_address(alloc, &who, second, over)?;
+    let address = read_address(samples, alloc, &who, second, over)?;
     let third = behind_line(second);
-    let first = read_first(alloc, third, over)?;
+    let first = read_first(samples, alloc, third, over)?;
     match Craft::new(alloc, who, [address].as_slice(), first) {
         Ok(craft) => Ok(craft),
         Err(NoMemory) => Err(Stop::NoMemory),
@@ -60,11 +65,16 @@ fn behind_line(lines: &[u8]) -> &[u8]
 }
 
 /// Who the aircraft of the first line is.
-fn read_who(alloc: Global, lines: &[u8], over: bool) -> Result<Who, Stop>
+fn read_who(
+    samples: &mut SampleReader,
+    alloc: Global,
+    lines: &[u8],
+    over: bool,
+) -> Result<Who, Stop>
     ensures went { IfOk result (λ who. GoesOn over begun 1 (script_lines lines.now) (named who) 2 (drop 1 (script_lines lines.now))) }
     ensures ended { IfErr result (EndsHere over begun 1 (script_lines lines.now)) }
 {
-    let said = read_said(alloc, 1, lines, over)?;
+    let said = read_said(samples, alloc, 1, lines, over)?;
     who_said(&said)
 }
 
@@ -88,17 +98,24 @@ fn same_aircraft(who: &Who) -> Who
             registration: who.registration,
             flight,
             airframe: who.airframe,
+            profile: who.profile,
         },
         None => unreachable!(),
     }
 }
 
 /// The one ground address of the second line.
-fn read_address(alloc: Global, who: &Who, lines: &[u8], over: bool) -> Result<Address, Stop>
+fn read_address(
+    samples: &mut SampleReader,
+    alloc: Global,
+    who: &Who,
+    lines: &[u8],
+    over: bool,
+) -> Result<Address, Stop>
     ensures went { IfOk result (λ address. GoesOn over (named who.now) 2 (script_lines lines.now) (linked who.now (address ∷ [])) 3 (drop 1 (script_lines lines.now))) }
     ensures ended { IfErr result (EndsHere over (named who.now) 2 (script_lines lines.now)) }
 {
-    let said = read_said(alloc, 2, lines, over)?;
+    let said = read_said(samples, alloc, 2, lines, over)?;
     address_said(said)
 }
 
@@ -108,7 +125,7 @@ fn address_said(said: ScriptLine) -> Result<Address, Stop>
     ensures ended { IfErr result (λ stop. (who : WhoValue) → EndsStep (line_step (named who) 2 said) stop) }
 {
     match said {
-        ScriptLine::G(addresses) => only_address(addresses.as_slice()),
+        ScriptLine::G { addresses, .. } => only_address(addresses.as_slice()),
         _ => Err(Stop::Ended(End::NotBuilt)),
     }
 }
@@ -125,12 +142,17 @@ fn only_address(addresses: &[Address]) -> Result<Address, Stop>
 }
 
 /// The first sample, of the third line.
-fn read_first(alloc: Global, lines: &[u8], over: bool) -> Result<Sample, Stop>
+fn read_first(
+    samples: &mut SampleReader,
+    alloc: Global,
+    lines: &[u8],
+    over: bool,
+) -> Result<Sample, Stop>
     ensures went { IfOk result (λ first. (who : WhoValue) (addresses : List (List ℕ))
         → GoesOn over (linked who addresses) 3 (script_lines lines.now) (flying (setting_with who addresses first)) 4 (drop 1 (script_lines lines.now))) }
     ensures ended { IfErr result (λ stop. (who : WhoValue) (addresses : List (List ℕ)) → EndsHere over (linked who addresses) 3 (script_lines lines.now) stop) }
 {
-    let said = read_said(alloc, 3, lines, over)?;
+    let said = read_said(samples, alloc, 3, lines, over)?;
     sample_said(said)
 }
 
@@ -147,14 +169,20 @@ fn sample_said(said: ScriptLine) -> Result<Sample, Stop>
 }
 
 /// What the first of these lines says, which has this number in the head.
-fn read_said(alloc: Global, number: u32, lines: &[u8], over: bool) -> Result<ScriptLine, Stop>
+fn read_said(
+    samples: &mut SampleReader,
+    alloc: Global,
+    number: u32,
+    lines: &[u8],
+    over: bool,
+) -> Result<ScriptLine, Stop>
     ensures said { IfOk result (BeginsSaying number (script_lines lines.now)) }
     ensures ended { IfErr result (λ stop. (stage : Stage) → IsInHead stage → EndsHere over stage number (script_lines lines.now) stop) }
 {
     let Some((line, _)) = next_line(lines) else {
         return Err(Stop::Ended(end_in_head(over, number)));
     };
-    match read_line(alloc, number, line) {
+    match read_line(samples, alloc, number, line) {
         Ok(Reading::Says(said)) => Ok(said),
         Ok(Reading::Bad { code, value }) => Err(Stop::Ended(bad_line(number, code, value))),
         Ok(Reading::Brings(_)) => Err(Stop::Ended(End::NotBuilt)),

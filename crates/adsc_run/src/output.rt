@@ -2,7 +2,7 @@
 ghost use Rattle.std.specs.Prelude.{◌≡◌, ◌≢◌, ◌++◌, OnOk, IfOk, codes, flat_map};
 ghost use Rattle.adsc_io.specs.Lines.{script_lines, ended};
 ghost use Rattle.aircraft_core.specs.Entries.{line_of as line_of_entry};
-ghost use Rattle.shown_lines.specs.Fields.{number_field};
+ghost use Rattle.output_fields.specs.Fields.{number_field};
 ghost use Rattle.adsc_run.specs.Appending.{Appends};
 ghost use Rattle.adsc_run.specs.Output.{AreLinesOfLinks, AreLinkLines, IsEndText, IsRunText, bad_line as bad_line_text, code_text, downlink_lines, journal_line, logon_line, refused_line, why_fields};
 ghost use Rattle.adsc_run.specs.OutcomeView.{journal_in, run_of, setting_in};
@@ -13,7 +13,7 @@ use crate::refused::{RefusedLine, RefusedWhy};
 use adsc_io::{NoMemory, next_line};
 use aircraft_core::{Craft, Entry};
 use net_script::{BadLine, Code};
-use shown_lines::{append_envelope_fault, append_number, append_request_fault};
+use output_fields::{append_envelope_fault, append_number, append_request_fault};
 use std::alloc::{AllocError, Global};
 
 /// The output of a run that ended so: its journal line, and then the lines of each link and of the refused texts and `OK`, or the

@@ -12,6 +12,7 @@ use acars_envelope::{Address, EnvelopeRefusal, Registration};
 use adsc_io::{MAX_LINE_BYTES, NoMemory};
 use adsc_requests::{Refusal, Uplink};
 use arrayvec::ArrayVec;
+use flight_samples::SampleReader;
 use net_script::{Code, LineRefusal, ScriptLine, read_script_line};
 use std::alloc::Global;
 
@@ -69,7 +70,14 @@ pub struct AdsUplink {
 /// AFN text, or an uplink of the application ADS. The payload of an uplink is read as [`adsc_requests::decode_uplink`] does: what
 /// it asks, or its first fault. A text or a payload that is refused leaves its line right. The script language is this project's
 /// profile; texts follow ARINC 622, payloads RTCA DO-258A / EUROCAE ED-100A.
-pub fn read_line(alloc: Global, number: u32, line: &[u8]) -> Result<Reading, NoMemory>
+///
+/// `samples` reads the columns of sample lines; one serves all lines of a run.
+pub fn read_line(
+    samples: &mut SampleReader,
+    alloc: Global,
+    number: u32,
+    line: &[u8],
+) -> Result<Reading, NoMemory>
     requires unbroken { IsUnbroken line.now }
     ensures { IfOk result (ReadsLine number line.now) }
 {
@@ -82,16 +90,16 @@ pub fn read_line(alloc: Global, number: u32, line: &[u8]) -> Result<Reading, NoM
     if let Some(code) = misplaced(number, line) {
         return Ok(Reading::Bad { code, value: 0 });
     }
-    read_placed(alloc, line)
+    read_placed(samples, alloc, line)
 }
 
 /// What a line says that isn't too long and stands where it may, or the first fault of its form.
-fn read_placed(alloc: Global, line: &[u8]) -> Result<Reading, NoMemory>
+fn read_placed(samples: &mut SampleReader, alloc: Global, line: &[u8]) -> Result<Reading, NoMemory>
     requires size { length line.now ≤ max_line_bytes }
     requires unbroken { IsUnbroken line.now }
     ensures { (number : ℕ) → IsInPlace number line.now → IfOk result (ReadsLine number line.now) }
 {
-    match read_script_line(alloc, line) {
+    match read_script_line(samples, alloc, line) {
         Ok(ScriptLine::U { from }) => Ok(Reading::Brings(read_text(bytes_from(line, from)))),
         Ok(value) => Ok(Reading::Says(value)),
         Err(LineRefusal::Bad { code, value }) => Ok(Reading::Bad { code, value }),

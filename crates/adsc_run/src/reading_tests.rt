@@ -5,6 +5,7 @@ use acars_envelope::{Address, EnvelopeRefusal, EnvelopeWhy, Registration};
 use adsc_io::{NoMemory, next_line};
 use adsc_requests::{Message, Moduli, Refusal, Uplink};
 use arrayvec::ArrayVec;
+use flight_samples::SampleReader;
 use net_script::{Addresses, Code, ScriptLine};
 use std::alloc::AllocGlobal;
 use std::process::Abort;
@@ -13,7 +14,7 @@ use std::test::Fail;
 /// What the first line of an input says at this place, or why it is bad.
 fn read(rt: &(impl Abort + AllocGlobal), number: u32, input: &[u8]) -> Result<Reading, NoMemory> {
     let (line, _) = next_line(input).expect(rt, "a line");
-    read_line(rt.alloc(), number, line)
+    read_line(&mut SampleReader::new(rt.alloc()), rt.alloc(), number, line)
 }
 
 /// Tests that each line is bad at its place with this code and value.
@@ -109,7 +110,10 @@ fn lines_that_say_something(rt: HostRuntime) -> Result<(), Fail> {
     let list = Addresses::new([address].to_vec(rt.alloc())?);
     assert_eq!(rt;
         read(&rt, 2, b"G,AKLCDYA\nS"),
-        Ok(Reading::Says(ScriptLine::G(list)))
+        Ok(Reading::Says(ScriptLine::G {
+            addresses: list,
+            reserved: None,
+        }))
     );
     for number in [3, 4] {
         assert!(rt;

@@ -15,6 +15,7 @@ use crate::head::{Stop, behind_head, read_head};
 use crate::outcome::Outcome;
 use adsc_io::{NoMemory, Source, WholeEnd, before_limit, next_line, read_whole};
 use aircraft_core::Craft;
+use flight_samples::SampleReader;
 use std::alloc::Global;
 
 /// Why a script was not run.
@@ -62,8 +63,9 @@ fn run_lines(alloc: Global, lines: &[u8], over: bool) -> Result<Outcome, NoMemor
     requires { length (script_lines lines.now) ≤ max_script_lines }
     ensures { IfOk result (λ outcome. LinesRun over begun 1 (script_lines lines.now) (run_of outcome)) }
 {
-    match read_head(alloc, lines, over) {
-        Ok(craft) => fly(alloc, craft, behind_head(lines), over),
+    let mut samples = SampleReader::new(alloc);
+    match read_head(&mut samples, alloc, lines, over) {
+        Ok(craft) => fly(&mut samples, alloc, craft, behind_head(lines), over),
         Err(Stop::Ended(end)) => Ok(Outcome {
             craft: None,
             refused: Vec::new(alloc),
@@ -74,7 +76,13 @@ fn run_lines(alloc: Global, lines: &[u8], over: bool) -> Result<Outcome, NoMemor
 }
 
 /// Carries out the lines behind the head.
-fn fly(alloc: Global, craft: Craft, lines: &[u8], over: bool) -> Result<Outcome, NoMemory>
+fn fly(
+    samples: &mut SampleReader,
+    alloc: Global,
+    craft: Craft,
+    lines: &[u8],
+    over: bool,
+) -> Result<Outcome, NoMemory>
     requires few { length (script_lines lines.now) ≤ max_script_lines }
     requires links { length craft.setting.addresses ≤ 16 }
     requires first { craft.journal ≡ [] }
@@ -87,7 +95,7 @@ fn fly(alloc: Global, craft: Craft, lines: &[u8], over: bool) -> Result<Outcome,
     let mut number = 4;
     let mut rest = lines;
     while let Some((line, behind)) = next_line(rest) {
-        if let Some(end) = flight.take_line(alloc, number, line)? {
+        if let Some(end) = flight.take_line(samples, alloc, number, line)? {
             return Ok(flight.ended(end));
         }
         number += 1;

@@ -1,7 +1,7 @@
 -- What answers an uplink is what the rules make due at its acts.
 use Rattle.std.proofs.Common.{◌≡◌, ℕ, ◌≤◌, Bool, true, false, cond, ◌&&◌, inl, inr, Option, List, [], ◌∷◌, ◌++◌, length, map, flat_map, refl, ap, ap₂, sym, ◌∙◌, append_assoc, arith}
 use Rattle.std.specs.List.{list_all}
-use Rattle.std.specs.Prelude.{option_map}
+use Rattle.std.specs.Prelude.{option_map, is_some}
 use Rattle.std.proofs.lemmas.Bool.{and_parts}
 use Rattle.std.proofs.lemmas.List.{map-append}
 use Rattle.adsc_downlink.specs.Items.{ItemData}
@@ -18,7 +18,6 @@ use Rattle.adsc_requests.specs.declared.message.Uplink.{Uplink}
 use Rattle.adsc_requests.specs.declared.refusal.Refusal.{Refusal}
 use Rattle.contract_rules.specs.Acts.{Act, Said, Malformed}
 use Rattle.contract_rules.specs.Due.{Acknowledgement, Noncompliance, octet_named}
-use Rattle.contract_rules.specs.Messages.{asks_for}
 use Rattle.contract_rules.specs.Reports.{is_modulus_due}
 use Rattle.flight_samples.specs.declared.sample.Sample.{Sample as FlightSample}
 use Rattle.aircraft_core.specs.Acts.{rules_intent, rules_message, rules_fault}
@@ -89,13 +88,13 @@ fault_answered setting sample live payload refusal items first same = record {
 pub demand_data-periodic : (setting : Setting) (sample : FlightSample) (message : Message) (n : ℕ) (interval : Option ℕ) (groups : Moduli) (intent : Option Intent)
     → message ≡ Periodic n interval groups intent
     → demand_data setting sample message
-    ≡ cond (asks_for (option_map rules_intent intent)) (noncompliance n) (ack n)
+    ≡ cond (is_some (option_map rules_intent intent)) (noncompliance n) (ack n)
     ∷ report (record { tag = 7; basic = basic_data_of sample; groups = groups_from setting sample 12 (map (is_modulus_due 0) groups.m) }) ∷ []
 unfolding demand_data demand_items
 demand_data-periodic setting sample message n interval groups intent is =
     ap (demand_data setting sample) is
     ∙ ap (λ item. item ∷ report (record { tag = 7; basic = basic_data_of sample; groups = groups_from setting sample 12 (map (is_modulus_due 0) groups.m) }) ∷ [])
-    (by_case (asks_for (option_map rules_intent intent)))
+    (by_case (is_some (option_map rules_intent intent)))
   where
     by_case : (asks : Bool) → item_on setting sample (cond asks (Noncompliance n) (Acknowledgement n)) ≡ cond asks (noncompliance n) (ack n)
     by_case true = refl

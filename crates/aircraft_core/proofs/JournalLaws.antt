@@ -13,7 +13,7 @@ use Rattle.aircraft_core.specs.Downlinks.{EntryActs, JournalActs, entry_texts, j
 use Rattle.aircraft_core.specs.Entries.{latest_after}
 use Rattle.aircraft_core.specs.CraftFields.{KeepsDownlinks}
 use Rattle.aircraft_core.specs.Quiet.{is_quiet, quiet_items, live_after, latest_of, told_with, told_after}
-use Rattle.aircraft_core.specs.Setting.{Setting}
+use Rattle.aircraft_core.specs.Setting.{Setting, configuration}
 use Rattle.aircraft_core.specs.Taking.{IsTaken}
 use Rattle.aircraft_core.proofs.QuietLaws.{told_quiet, past_told, entry_due, entry_live}
 
@@ -42,18 +42,18 @@ JournalActs-length latest (e ∷ journal) (a ∷ acts) are = ap suc (JournalActs
 
 -- ---- items
 
-length-history_items : (past : List Noted) (acts : List (List Act)) → length (history_items 0 past acts) ≡ length acts
+length-history_items : (past : List Noted) (acts : List (List Act)) → length (history_items configuration 0 past acts) ≡ length acts
 length-history_items past [] = refl
-length-history_items past (a ∷ acts) = ap suc (length-history_items (past_with past a) acts)
+length-history_items past (a ∷ acts) = ap suc (length-history_items (past_with configuration past a) acts)
 
 history_items-more : (told : List Act) (acts : List (List Act)) (more : List Act)
-    → history_items 0 (past_of told) (acts ++ more ∷ []) ≡ history_items 0 (past_of told) acts ++ entry_items 0 (past_of (told_after told acts)) more ∷ []
+    → history_items configuration 0 (past_of configuration told) (acts ++ more ∷ []) ≡ history_items configuration 0 (past_of configuration told) acts ++ entry_items configuration 0 (past_of configuration (told_after told acts)) more ∷ []
 history_items-more told [] more = refl
 history_items-more told (a ∷ acts) more =
-    ap (λ items. entry_items 0 (past_of told) a ∷ items)
-    (ap (λ past. history_items 0 past (acts ++ more ∷ [])) (past_told told a)
+    ap (λ items. entry_items configuration 0 (past_of configuration told) a ∷ items)
+    (ap (λ past. history_items configuration 0 past (acts ++ more ∷ [])) (past_told told a)
     ∙ history_items-more (told_with told a) acts more
-    ∙ ap (λ past. history_items 0 past acts ++ entry_items 0 (past_of (told_after (told_with told a) acts)) more ∷ []) (sym (past_told told a)))
+    ∙ ap (λ past. history_items configuration 0 past acts ++ entry_items configuration 0 (past_of configuration (told_after (told_with told a) acts)) more ∷ []) (sym (past_told told a)))
 
 -- ---- texts
 
@@ -80,15 +80,15 @@ ended_lines-append (line ∷ front) back =
 -- an entry adds the texts of what it makes due
 texts-more : (setting : Setting) (journal : List Entry) (entry : Entry) (latest : FlightSample) (live : Bool) (outbox : List ℕ)
     → (keeps : KeepsDownlinks setting journal latest live outbox) → (more : List Act) → list_all is_quiet more ≡ true
-    → journal_texts setting 0 setting.first (journal ++ entry ∷ []) (history_items 0 [] (keeps.acts ++ more ∷ []))
-    ≡ journal_texts setting 0 setting.first journal (history_items 0 [] keeps.acts) ++ entry_texts setting 0 (latest_after latest entry) (quiet_items live more)
+    → journal_texts setting 0 setting.first (journal ++ entry ∷ []) (history_items configuration 0 [] (keeps.acts ++ more ∷ []))
+    ≡ journal_texts setting 0 setting.first journal (history_items configuration 0 [] keeps.acts) ++ entry_texts setting 0 (latest_after latest entry) (quiet_items live more)
 texts-more setting journal entry latest live outbox keeps more quiet =
     let told = told_after [] keeps.acts in
-    let before = history_items 0 [] keeps.acts in
+    let before = history_items configuration 0 [] keeps.acts in
     let size : length journal ≡ length before = JournalActs-length setting.first journal keeps.acts keeps.are_acts ∙ sym (length-history_items [] keeps.acts) in
-    let due : entry_items 0 (past_of told) more ≡ quiet_items live more = entry_due told more keeps.quiet quiet ∙ ap (λ l. quiet_items l more) (sym keeps.lives) in
+    let due : entry_items configuration 0 (past_of configuration told) more ≡ quiet_items live more = entry_due told more keeps.quiet quiet ∙ ap (λ l. quiet_items l more) (sym keeps.lives) in
     ap (λ items. journal_texts setting 0 setting.first (journal ++ entry ∷ []) items) (history_items-more [] keeps.acts more)
-    ∙ journal_texts-more setting setting.first journal entry before (entry_items 0 (past_of told) more) size
+    ∙ journal_texts-more setting setting.first journal entry before (entry_items configuration 0 (past_of configuration told) more) size
     ∙ ap₂ (λ sample items. journal_texts setting 0 setting.first journal before ++ entry_texts setting 0 (latest_after sample entry) items) (sym keeps.last) due
 
 pub kept_on : (setting : Setting) (journal : List Entry) (entry : Entry) (latest now_latest : FlightSample) (live now_live : Bool) (outbox now_outbox : List ℕ)
@@ -96,7 +96,7 @@ pub kept_on : (setting : Setting) (journal : List Entry) (entry : Entry) (latest
     → KeepsDownlinks setting (journal ++ entry ∷ []) now_latest now_live now_outbox
 kept_on setting journal entry latest now_latest live now_live outbox now_outbox keeps taken =
     let told = told_after [] keeps.acts in
-    let before = journal_texts setting 0 setting.first journal (history_items 0 [] keeps.acts) in
+    let before = journal_texts setting 0 setting.first journal (history_items configuration 0 [] keeps.acts) in
     let here = entry_texts setting 0 (latest_after latest entry) (quiet_items live taken.acts) in
     let texts = texts-more setting journal entry latest live outbox keeps taken.acts taken.quiet in
     record {
@@ -106,7 +106,7 @@ kept_on setting journal entry latest now_latest live now_live outbox now_outbox 
       quiet = ap (list_all is_quiet) (told_after-more [] keeps.acts taken.acts) ∙ told_quiet told taken.acts keeps.quiet taken.quiet;
       last = taken.last ∙ ap (λ l. latest_after l entry) keeps.last ∙ sym (latest_of-more setting.first journal entry);
       lives = taken.lives ∙ ap (λ l. live_after l taken.acts) keeps.lives
-          ∙ sym (ap (λ t. is_live 0 (past_of t)) (told_after-more [] keeps.acts taken.acts) ∙ entry_live told taken.acts keeps.quiet taken.quiet);
+          ∙ sym (ap (λ t. is_live 0 (past_of configuration t)) (told_after-more [] keeps.acts taken.acts) ∙ entry_live told taken.acts keeps.quiet taken.quiet);
       unbroken = subst (All IsUnbroken) (sym texts) (All-append IsUnbroken before here keeps.unbroken taken.unbroken);
       spelled = taken.spelled ∙ ap (λ o. o ++ ended_lines here) keeps.spelled ∙ sym (ended_lines-append before here) ∙ ap ended_lines (sym texts);
     }

@@ -11,7 +11,7 @@ use Rattle.aircraft_core.specs.declared.entry.Entry.TheVariants.{Uplink, Sample}
 use Rattle.aircraft_core.specs.Acts.{rules_message, rules_fault}
 use Rattle.aircraft_core.specs.Downlinks.{UplinkActs, EntryActs, JournalActs, journal_texts, AreDownlinks}
 use Rattle.aircraft_core.specs.Entries.{latest_after}
-use Rattle.aircraft_core.specs.Setting.{Setting}
+use Rattle.aircraft_core.specs.Setting.{Setting, configuration}
 
 same_uplink_acts : (link : ℕ) (payload : List ℕ) (one other : List Act) → UplinkActs link payload one → UplinkActs link payload other → one ≡ other
 same_uplink_acts link payload one other (inl x) (inl y) =
@@ -37,5 +37,5 @@ pub same_downlinks : (setting : Setting) (journal : List Entry) (link : ℕ) (on
     → AreDownlinks setting journal link one → AreDownlinks setting journal link other → one ≡ other
 same_downlinks setting journal link one other x y =
     x.spelled
-    ∙ ap (λ acts. journal_texts setting link setting.first journal (history_items link [] acts)) (same_acts setting.first journal x.acts y.acts x.are_acts y.are_acts)
+    ∙ ap (λ acts. journal_texts setting link setting.first journal (history_items configuration link [] acts)) (same_acts setting.first journal x.acts y.acts x.are_acts y.are_acts)
     ∙ sym y.spelled

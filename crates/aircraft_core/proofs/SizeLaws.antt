@@ -1,7 +1,7 @@
 -- How long the encodings of answers are.
 use Rattle.std.proofs.Common.{◌≡◌, ℕ, ◌+◌, ◌*◌, ◌≤◌, Bool, true, false, cond, ℤ, List, [], ◌∷◌, ◌++◌, length, map, flat_map, length-append, ap, ◌∙◌, arith}
 use Rattle.std.specs.List.{list_all}
-use Rattle.std.specs.Prelude.{option_map}
+use Rattle.std.specs.Prelude.{option_map, is_some}
 use Rattle.std.proofs.lemmas.Bool.{and_parts, false≢true}
 use Rattle.std.proofs.lemmas.List.{length-map}
 use Rattle.std.proofs.lemmas.List.Concat.{flat_map-append}
@@ -17,8 +17,7 @@ use Rattle.adsc_groups.specs.Groups.{GroupData, group_bits, group_fields}
 use Rattle.adsc_downlink.specs.Items.{ItemData, tagged_group_bits, report_bits, item_bits, downlink_bits}
 use Rattle.adsc_downlink.specs.Items.ItemData.{ack, nack, noncompliance, emergency_off, report}
 use Rattle.adsc_downlink.proofs.Sizes.{length-nack}
-use Rattle.adsc_downlink.specs.Codes.{has_place}
-use Rattle.contract_rules.specs.Messages.{asks_for}
+use Rattle.contract_rules.specs.Reasons.{names_octet}
 use Rattle.contract_rules.specs.Due.{Acknowledgement, Noncompliance, Report}
 use Rattle.contract_rules.specs.Reports.{is_modulus_due}
 use Rattle.adsc_requests.specs.declared.message.Message.{Message}
@@ -107,7 +106,7 @@ length-answer setting sample n false = omega (arith, length-octets_bits (3 ∷ n
 length-demand : (setting : Setting) (sample : Sample) (message : Message) → is_demand message ≡ true → length (flat_map item_bits (demand_data setting sample message)) ≤ 496
 unfolding demand_data demand_items
 length-demand setting sample (Periodic n interval groups intent) demand =
-    let asks = asks_for (option_map rules_intent intent) in
+    let asks = is_some (option_map rules_intent intent) in
     let answer = item_bits (item_on setting sample (cond asks (Noncompliance n) (Acknowledgement n))) in
     let flags = map (is_modulus_due 0) groups.m in
     let reported = item_bits (item_on setting sample (Report 7 flags)) in
@@ -146,7 +145,7 @@ demands_fit setting sample messages items few demands same = omega (arith, ap (�
 -- and so does the answer to one that can't be read
 pub fault_fits : (live : Bool) (n reason octet : ℕ) (items : List ItemData) → items ≡ cond live (nack n reason octet ∷ []) [] → length (downlink_bits items) ≤ 2040
 unfolding downlink_bits
-fault_fits true n reason octet items same = omega (arith, ap (λ xs. length (downlink_bits xs)) same, length-append (item_bits (nack n reason octet)) [], size (has_place reason), length-nack n reason octet)
+fault_fits true n reason octet items same = omega (arith, ap (λ xs. length (downlink_bits xs)) same, length-append (item_bits (nack n reason octet)) [], size (names_octet reason), length-nack n reason octet)
   where
     size : (test : Bool) → 8 * cond test 4 3 ≤ 32
     size true = omega arith
@@ -157,7 +156,7 @@ fault_fits false n reason octet items same = omega (arith, ap (λ xs. length (do
 some_bit : (item : ItemData) → 1 ≤ length (item_bits item)
 unfolding item_bits report_bits
 some_bit (ack n) = omega (arith, length-octets_bits (3 ∷ n ∷ []))
-some_bit (nack n reason place) = omega (arith, length-nack n reason place, size (has_place reason))
+some_bit (nack n reason place) = omega (arith, length-nack n reason place, size (names_octet reason))
   where
     size : (test : Bool) → 1 ≤ 8 * cond test 4 3
     size true = omega arith

@@ -8,7 +8,7 @@ use Rattle.adsc_io.specs.Lines.{ended_lines, IsUnbroken}
 use Rattle.contract_rules.specs.Acts.{Moved}
 use Rattle.flight_samples.specs.declared.sample.Sample.{Sample as FlightSample}
 use Rattle.aircraft_core.specs.declared.entry.Entry.TheVariants.{Uplink, Sample}
-use Rattle.aircraft_core.specs.Acts.{rules_sample}
+use Rattle.due_event.specs.RuleTerms.{rules_sample}
 use Rattle.aircraft_core.specs.Downlinks.{UplinkActs, entry_texts}
 use Rattle.aircraft_core.specs.Quiet.{quiet_items}
 use Rattle.aircraft_core.specs.Setting.{Setting}

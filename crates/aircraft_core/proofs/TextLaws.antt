@@ -17,7 +17,7 @@ use Rattle.aircraft_core.specs.declared.entry.Entry.{Entry}
 use Rattle.aircraft_core.specs.CraftFields.{KeepsDownlinks}
 use Rattle.aircraft_core.specs.Downlinks.{AreDownlinks, text_of_items, entry_texts, journal_texts}
 use Rattle.aircraft_core.specs.Reports.{item_on}
-use Rattle.aircraft_core.specs.Setting.{Setting, address_of}
+use Rattle.aircraft_core.specs.Setting.{Setting, address_of, configuration}
 use Rattle.aircraft_core.specs.Taking.{text_of_data, texts_of_data}
 use Rattle.aircraft_core.proofs.SizeLaws.{some_bits}
 
@@ -54,9 +54,9 @@ texts_of_items setting sample (item ∷ items) = refl
 -- ---- the outbox
 
 lines_kept : (setting : Setting) (journal : List Entry) (latest : FlightSample) (live : Bool) (outbox : List ℕ)
-    → (keeps : KeepsDownlinks setting journal latest live outbox) → script_lines outbox ≡ journal_texts setting 0 setting.first journal (history_items 0 [] keeps.acts)
+    → (keeps : KeepsDownlinks setting journal latest live outbox) → script_lines outbox ≡ journal_texts setting 0 setting.first journal (history_items configuration 0 [] keeps.acts)
 lines_kept setting journal latest live outbox keeps =
-    ap script_lines keeps.spelled ∙ script_lines-ended (journal_texts setting 0 setting.first journal (history_items 0 [] keeps.acts)) keeps.unbroken
+    ap script_lines keeps.spelled ∙ script_lines-ended (journal_texts setting 0 setting.first journal (history_items configuration 0 [] keeps.acts)) keeps.unbroken
 
 -- its lines are the downlinks
 pub downlinks_kept : (setting : Setting) (journal : List Entry) (latest : FlightSample) (live : Bool) (outbox : List ℕ) (link : ℕ)

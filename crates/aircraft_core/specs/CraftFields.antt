@@ -13,7 +13,7 @@ use Rattle.aircraft_core.specs.declared.craft.Craft.TheInside.{Inside}
 use Rattle.aircraft_core.specs.Aircraft.{Aircraft}
 use Rattle.aircraft_core.specs.Downlinks.{JournalActs, journal_texts}
 use Rattle.aircraft_core.specs.Quiet.{is_quiet, latest_of, told_after}
-use Rattle.aircraft_core.specs.Setting.{Setting}
+use Rattle.aircraft_core.specs.Setting.{Setting, configuration}
 
 -- Room for one entry is a place in the journal, and 600 bytes in the outbox.
 abbrev pub aircraft_of : Inside → Aircraft
@@ -31,9 +31,9 @@ pub record KeepsDownlinks (setting : Setting) (journal : List Entry) (latest : F
   pub are_acts : JournalActs setting.first journal acts
   pub quiet : list_all is_quiet (told_after [] acts) ≡ true
   pub last : latest ≡ latest_of setting.first journal
-  pub lives : live ≡ is_live 0 (past_of (told_after [] acts))
-  pub unbroken : All IsUnbroken (journal_texts setting 0 setting.first journal (history_items 0 [] acts))
-  pub spelled : outbox ≡ ended_lines (journal_texts setting 0 setting.first journal (history_items 0 [] acts))
+  pub lives : live ≡ is_live 0 (past_of configuration (told_after [] acts))
+  pub unbroken : All IsUnbroken (journal_texts setting 0 setting.first journal (history_items configuration 0 [] acts))
+  pub spelled : outbox ≡ ended_lines (journal_texts setting 0 setting.first journal (history_items configuration 0 [] acts))
 
 -- what the type keeps
 abbrev pub KeepsOutbox : Inside → Type 0

@@ -14,10 +14,11 @@ use Rattle.adsc_requests.specs.declared.refusal.Refusal.{Refusal}
 use Rattle.flight_samples.specs.declared.sample.Sample.{Sample as FlightSample}
 use Rattle.aircraft_core.specs.declared.entry.Entry.{Entry}
 use Rattle.aircraft_core.specs.declared.entry.Entry.TheVariants.{Uplink, Sample}
-use Rattle.aircraft_core.specs.Acts.{rules_message, rules_fault, rules_sample}
+use Rattle.aircraft_core.specs.Acts.{rules_message, rules_fault}
+use Rattle.due_event.specs.RuleTerms.{rules_sample}
 use Rattle.aircraft_core.specs.Entries.{latest_after}
 use Rattle.aircraft_core.specs.Reports.{item_on}
-use Rattle.aircraft_core.specs.Setting.{Setting, address_of}
+use Rattle.aircraft_core.specs.Setting.{Setting, address_of, configuration}
 
 -- ---- the acts of a journal
 
@@ -64,4 +65,4 @@ journal_texts setting link latest _ _ = []
 pub record AreDownlinks (setting : Setting) (journal : List Entry) (link : ℕ) (texts : List (List ℕ)) : Type 0 where
   pub acts : List (List Act)
   pub are_acts : JournalActs setting.first journal acts
-  pub spelled : texts ≡ journal_texts setting link setting.first journal (history_items link [] acts)
+  pub spelled : texts ≡ journal_texts setting link setting.first journal (history_items configuration link [] acts)

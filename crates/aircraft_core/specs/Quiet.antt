@@ -2,7 +2,8 @@
 use Rattle.std.specs.Prelude.{◌==◌, ◌&&◌, Bool, true, false, cond, List, [], ◌∷◌, ◌++◌, map}
 use Rattle.contract_rules.specs.Messages.{Message, Demand, is_request_of}
 use Rattle.contract_rules.specs.Acts.{Act, Said, Malformed, Moved, Fault}
-use Rattle.contract_rules.specs.Due.{Item, NegativeAcknowledgement, answer_to_request, first_report, octet_named}
+use Rattle.contract_rules.specs.Due.{Item, NegativeAcknowledgement, Report, answer_to_request, octet_named}
+use Rattle.contract_rules.specs.Reports.{report_groups}
 use Rattle.adsc_downlink.specs.Items.{ItemData}
 use Rattle.adsc_requests.specs.declared.message.Message.{Message as MessageRead}
 use Rattle.flight_samples.specs.declared.sample.Sample.{Sample as FlightSample}
@@ -23,7 +24,7 @@ is_quiet _ = false
 
 -- A demand is accepted: its answer is due, and a report.
 unfoldable pub demand_items : Message → List Item
-demand_items message = answer_to_request message ++ first_report false message
+demand_items message = answer_to_request message ++ Report 7 (report_groups 0 message) ∷ []
 
 -- A malformed payload is answered where the link is live.
 abbrev pub fault_items : Bool → Fault → List Item

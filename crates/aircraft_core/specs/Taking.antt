@@ -13,7 +13,7 @@ use Rattle.aircraft_core.specs.Downlinks.{EntryActs, UplinkActs, entry_texts}
 use Rattle.aircraft_core.specs.Entries.{latest_after}
 use Rattle.aircraft_core.specs.Quiet.{is_quiet, quiet_items, live_after}
 use Rattle.aircraft_core.specs.Reports.{item_on}
-use Rattle.aircraft_core.specs.Setting.{Setting, address_of}
+use Rattle.aircraft_core.specs.Setting.{Setting, address_of, configuration}
 
 -- the text of items that have these data
 unfoldable pub text_of_data : Setting → List ItemData → List ℕ

@@ -1,11 +1,10 @@
 //! The answers to an uplink.
-ghost use Rattle.std.specs.Prelude.{◌≡◌, ◌+◌, ◌≤◌, [], ◌∷◌, ◌++◌, if◌then◌else◌, length, map, option_map, true};
+ghost use Rattle.std.specs.Prelude.{◌≡◌, ◌+◌, ◌≤◌, [], ◌∷◌, ◌++◌, if◌then◌else◌, length, map, option_map, is_some, true};
 ghost use Rattle.std.specs.List.{flat_map, list_all};
 ghost use Rattle.arrayvec.specs.ArrayVec.{array_vec_len};
 ghost use Rattle.adsc_downlink.specs.ItemView.{item_data};
 ghost use Rattle.adsc_downlink.specs.Items.{ItemData, downlink_bits};
 ghost use Rattle.contract_rules.specs.Due.{octet_named};
-ghost use Rattle.contract_rules.specs.Messages.{asks_for};
 ghost use Rattle.aircraft_core.specs.Acts.{rules_fault, rules_intent};
 ghost use Rattle.aircraft_core.specs.Entries.{IsBuiltPayload, is_demand};
 ghost use Rattle.aircraft_core.specs.Quiet.{demand_data};
@@ -84,7 +83,7 @@ fn push_answer(items: &mut ArrayVec<Item, 8>, setup: &Setup, latest: &Sample, de
 
 /// The answer to an accepted request of this number: an acknowledgement, or a noncompliance where it asks for intent.
 fn answer_to_request(n: u8, intent: Option<Intent>) -> Item
-    ensures { item_data result ≡ (if asks_for (option_map rules_intent intent) then ItemData.noncompliance n else ItemData.ack n) }
+    ensures { item_data result ≡ (if is_some (option_map rules_intent intent) then ItemData.noncompliance n else ItemData.ack n) }
 {
     if intent.is_some() {
         Item::Noncompliance { n }

@@ -54,6 +54,7 @@ impl Craft {
         ensures registration { IfOk result (λ craft. craft.setting.registration ≡ who.registration) }
         ensures flight { IfOk result (λ craft. craft.setting.flight ≡ who.flight) }
         ensures airframe { IfOk result (λ craft. craft.setting.airframe ≡ who.airframe) }
+        ensures profile { IfOk result (λ craft. craft.setting.profile ≡ who.profile) }
         ensures addresses { IfOk result (λ craft. craft.setting.addresses ≡ links.now) }
         ensures first { IfOk result (λ craft. craft.setting.first ≡ first) }
         ensures empty { IfOk result (λ craft. craft.journal ≡ []) }

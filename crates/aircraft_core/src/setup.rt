@@ -28,6 +28,7 @@ impl Model for Setup {
       registration = s.who.registration;
       flight = s.who.flight;
       airframe = s.who.airframe;
+      profile = s.who.profile;
       addresses = s.address ∷ [];
       first = s.first;
     } };
@@ -39,6 +40,7 @@ impl Setup {
         ensures registration { result.registration ≡ who.registration }
         ensures flight { result.flight ≡ who.flight }
         ensures airframe { result.airframe ≡ who.airframe }
+        ensures profile { result.profile ≡ who.profile }
         ensures addresses { result.addresses ≡ address ∷ [] }
         ensures first { result.first ≡ first }
     {

@@ -6,6 +6,7 @@ ghost use Rattle.aircraft_core.specs.Setting.{Setting};
 use super::*;
 use acars_envelope::{Address, Flight, Registration};
 use arrayvec::ArrayVec;
+use due_event::Profile;
 use flight_samples::Sample;
 use std::alloc::Global;
 use std::test::Fail;
@@ -68,6 +69,7 @@ fn craft(alloc: Global) -> Result<Craft, Fail>
         registration: Registration::new(b"N12345").ok_or("a registration")?,
         flight: Flight::new(b"ANZ1").ok_or("a flight")?,
         airframe: 0xC8_12_34,
+        profile: Profile::One,
     };
     Ok(Craft::new(alloc, who, [address].as_slice(), Sample::zero())?)
 }

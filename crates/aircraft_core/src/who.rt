@@ -2,6 +2,7 @@
 ghost use Rattle.std.specs.Prelude.{◌<◌, ◌^◌};
 
 use acars_envelope::{Flight, Registration};
+use due_event::Profile;
 
 /// Who an aircraft is on its data link.
 ///
@@ -14,5 +15,7 @@ pub struct Who {
     pub flight: Flight,
     /// The aircraft's address of 24 bits (ICAO).
     pub airframe: u32,
+    /// How often it reports the events of one event contract (this project's profile).
+    pub profile: Profile,
     ghost address_size: { airframe < 2 ^ 24 },
 }

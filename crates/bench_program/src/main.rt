@@ -6,11 +6,13 @@ use adsc_bench::{Status, top};
 use adsc_io::{StdSink, StdSource};
 use std::alloc::AllocGlobal;
 use std::env::{self, Env};
+use std::io::ErrorKind;
 use std::process::ExitCode;
 
 fn main(rt: HostRuntime) -> ExitCode {
-    let Some(words) = words_of(&rt) else {
-        return ExitCode::from(Status::Words.number());
+    let words = match words_of(&rt) {
+        Ok(words) => words,
+        Err(status) => return ExitCode::from(status.number()),
     };
     let mut source = StdSource::new(rt.stdin());
     let mut sink = StdSink::new(rt.stdout());
@@ -18,7 +20,15 @@ fn main(rt: HostRuntime) -> ExitCode {
     ExitCode::from(status.number())
 }
 
-/// The words behind the program's name, or None where they can't be had as text.
-fn words_of(rt: &(impl Env + AllocGlobal)) -> Option<Vec<String>> {
-    env::args(rt).ok()?.skip(1).collect(rt.alloc()).ok()
+/// The words behind the program's name. Words that can't be had as text are none of a listed form.
+fn words_of(rt: &(impl Env + AllocGlobal)) -> Result<Vec<String>, Status> {
+    let words = match env::args(rt) {
+        Ok(words) => words,
+        Err(fault) if fault.kind() == ErrorKind::OutOfMemory => return Err(Status::NoMemory),
+        Err(_) => return Err(Status::Words),
+    };
+    match words.skip(1).collect(rt.alloc()) {
+        Ok(words) => Ok(words),
+        Err(_) => Err(Status::NoMemory),
+    }
 }

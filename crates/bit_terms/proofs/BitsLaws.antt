@@ -1,7 +1,7 @@
 -- The laws of the bits of a number.
-use Rattle.std.proofs.Common.{◌≡◌, ℕ, zero, suc, ◌+◌, ◌*◌, ◌/◌, ◌%◌, ◌^◌, ◌<◌, ◌≤◌, ◌∷◌, ◌++◌, length, replicate, false, ◌==◌, refl, sym, ap, ap₂, ◌∙◌, zero-add, suc-add, arith}
+use Rattle.std.proofs.Common.{◌≡◌, ℕ, zero, suc, ◌+◌, ◌*◌, ◌/◌, ◌%◌, ◌^◌, ◌<◌, ◌≤◌, ◌∷◌, ◌++◌, length, ◌==◌, refl, sym, ap, ap₂, ◌∙◌, zero-add, suc-add, arith}
 use Rattle.std.proofs.lemmas.Nat.{shr-shr, shr_high, shr_split}
-use Rattle.std.proofs.lemmas.Nat.Bits.{bit_at_cat_low, bit_at-zero}
+use Rattle.std.proofs.lemmas.Nat.Bits.{bit_at_cat_low}
 use Rattle.bit_terms.specs.Bits.{unsigned_bits}
 
 -- A field of `width` bits has `width` bits.
@@ -34,9 +34,3 @@ unsigned_bits-join a b x y below =
 pub unsigned_bits-mod : (width value : ℕ) → unsigned_bits width (value % 2 ^ width) ≡ unsigned_bits width value
 unsigned_bits-mod width value =
     sym (unsigned_bits-low width width (value / 2 ^ width) (value % 2 ^ width) (omega arith)) ∙ ap (unsigned_bits width) (shr_split value width)
-
--- The bits of 0 are zeros.
-pub unsigned_bits_of_zero : (width : ℕ) → unsigned_bits width 0 ≡ replicate width false
-unfolding unsigned_bits
-unsigned_bits_of_zero zero = refl
-unsigned_bits_of_zero (suc width) = ap₂ (λ (bit : ℕ) bits. (bit == 1) ∷ bits) (bit_at-zero width) (unsigned_bits_of_zero width)

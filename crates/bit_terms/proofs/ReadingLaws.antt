@@ -3,11 +3,11 @@ use Rattle.std.proofs.Common.{◌≡◌, ℕ, ◌+◌, ◌^◌, ◌<◌, ◌≤�
 use Rattle.std.proofs.lemmas.List.{take_at, drop_at}
 use Rattle.std.proofs.lemmas.Bool.{cases_lt}
 use Rattle.bit_terms.specs.Bits.{unsigned_bits}
-use Rattle.bit_terms.specs.Octets.{number_of}
+use Rattle.bit_terms.specs.Octets.{number_spelled}
 use Rattle.bit_terms.specs.Signed.{twos_complement, signed_bits, FitsSigned, signed_of}
-use Rattle.bit_terms.specs.Reading.{Unread, after, taken, taken_signed, ◌>>=◌}
+use Rattle.bit_terms.specs.Reading.{Unread, Takes, TakesSigned, after, taken, taken_signed, ◌>>=◌}
 use Rattle.bit_terms.proofs.BitsLaws.{length-unsigned_bits}
-use Rattle.bit_terms.proofs.OctetsLaws.{number_of-lt, number_of-unsigned_bits, unsigned_bits-number_of}
+use Rattle.bit_terms.proofs.OctetsLaws.{number_spelled-lt, number_spelled-unsigned_bits, unsigned_bits-number_spelled}
 use Rattle.bit_terms.proofs.SignedLaws.{twos_complement-lt, FitsSigned-signed_of, signed_of-twos_complement, twos_complement-signed_of}
 
 -- ---- joining
@@ -27,6 +27,10 @@ bind_err (Err other) next refusal given = inl (cc)
 pub ok_same : {A F : Type 0} (x y : A) → ◌≡◌ {A = Result A F} (Ok x) (Ok y) → x ≡ y
 ok_same x y same = cc
 
+-- Two answers that are one have one refusal.
+pub err_same : {A F : Type 0} (x y : F) → ◌≡◌ {A = Result A F} (Err x) (Err y) → x ≡ y
+err_same x y same = cc
+
 -- A value is no refusal.
 pub ok_is_no_err : {A F : Type 0} (x : A) (refusal : F) → Ok x ≡ Err refusal → ⊥
 ok_is_no_err x refusal same = cc
@@ -34,7 +38,7 @@ ok_is_no_err x refusal same = cc
 -- ---- one field
 
 -- What a field gives when enough bits are left, and when too few are.
-pub taken_whole : (width : ℕ) (unread : Unread) → width ≤ length unread.left → taken width unread ≡ Ok (number_of (take width unread.left), after width unread)
+pub taken_whole : (width : ℕ) (unread : Unread) → width ≤ length unread.left → taken width unread ≡ Ok (number_spelled (take width unread.left), after width unread)
 unfolding taken
 taken_whole width unread enough = rw (le-ltb (length unread.left) width enough) refl
 
@@ -49,15 +53,10 @@ taken_again width value at rest fits =
     let size = length-unsigned_bits width value in
     let enough : width ≤ length (unsigned_bits width value ++ rest) = omega (arith, length-append (unsigned_bits width value) rest, size) in
     taken_whole width (record { left = unsigned_bits width value ++ rest; at = at }) enough
-    ∙ ap₂ (λ front back. Ok (number_of front, record { left = back; at = at + width })) (take_at (unsigned_bits width value) rest width size) (drop_at (unsigned_bits width value) rest width size)
-    ∙ ap (λ number. Ok (number, record { left = rest; at = at + width })) (number_of-unsigned_bits width value fits)
+    ∙ ap₂ (λ front back. Ok (number_spelled front, record { left = back; at = at + width })) (take_at (unsigned_bits width value) rest width size) (drop_at (unsigned_bits width value) rest width size)
+    ∙ ap (λ number. Ok (number, record { left = rest; at = at + width })) (number_spelled-unsigned_bits width value fits)
 
--- The field was there: what a reading took is the value's bits and what is then left.
-pub record Takes (width value : ℕ) (before now : Unread) : Type 0 where
-  pub fits : value < 2 ^ width
-  pub bits : before.left ≡ unsigned_bits width value ++ now.left
-  pub place : now.at ≡ before.at + width
-
+-- A field that was taken was there.
 pub taken_takes : (width value : ℕ) (before now : Unread) → taken width before ≡ Ok (value, now) → Takes width value before now
 taken_takes width value before now given = ⊎_elim short whole (cases_lt (length before.left) width)
   where
@@ -66,14 +65,14 @@ taken_takes width value before now given = ⊎_elim short whole (cases_lt (lengt
 
     whole : width ≤ length before.left → Takes width value before now
     whole enough =
-        let same = ok_same {F = ℕ} (number_of (take width before.left), after width before) (value, now) (sym (taken_whole width before enough) ∙ given) in
-        let number : number_of (take width before.left) ≡ value = ap (λ x. x.0) same in
+        let same = ok_same {F = ℕ} (number_spelled (take width before.left), after width before) (value, now) (sym (taken_whole width before enough) ∙ given) in
+        let number : number_spelled (take width before.left) ≡ value = ap (λ x. x.0) same in
         let rest : after width before ≡ now = ap (λ x. x.1) same in
         let size : length (take width before.left) ≡ width = length-take-le width before.left enough in
         let front : unsigned_bits width value ≡ take width before.left =
-        ap₂ unsigned_bits (sym size) (sym number) ∙ unsigned_bits-number_of (take width before.left) in
+        ap₂ unsigned_bits (sym size) (sym number) ∙ unsigned_bits-number_spelled (take width before.left) in
         record {
-          fits = subst₂ (λ n w. n < 2 ^ w) number size (number_of-lt (take width before.left));
+          fits = subst₂ (λ n w. n < 2 ^ w) number size (number_spelled-lt (take width before.left));
           bits = sym (take-append-drop width before.left) ∙ ap₂ (λ x y. x ++ y) (sym front) (ap (λ u. u.left) rest);
           place = sym (ap (λ u. u.at) rest);
         }
@@ -86,7 +85,7 @@ taken_refused width bit before given = ⊎_elim short whole (cases_lt (length be
     short few = let same : Err before.at ≡ Err bit = sym (taken_short width before few) ∙ given in (cc, few)
 
     whole : width ≤ length before.left → (bit ≡ before.at) × (length before.left < width)
-    whole enough = absurd (ok_is_no_err (number_of (take width before.left), after width before) bit (sym (taken_whole width before enough) ∙ given))
+    whole enough = absurd (ok_is_no_err (number_spelled (take width before.left), after width before) bit (sym (taken_whole width before enough) ∙ given))
 
 -- ---- one signed field
 
@@ -95,11 +94,6 @@ pub taken_signed_again : (width : ℕ) (value : ℤ) (at : ℕ) (rest : List Boo
 taken_signed_again width value at rest some fits =
     rw (taken_again width (twos_complement width value) at rest (twos_complement-lt width value some fits))
     (ap (λ z. Ok (z, record { left = rest; at = at + width })) (signed_of-twos_complement width value some fits))
-
-pub record TakesSigned (width : ℕ) (value : ℤ) (before now : Unread) : Type 0 where
-  pub fits : FitsSigned width value
-  pub bits : before.left ≡ signed_bits width value ++ now.left
-  pub place : now.at ≡ before.at + width
 
 pub taken_signed_takes : (width : ℕ) (value : ℤ) (before now : Unread) → 1 ≤ width → taken_signed width before ≡ Ok (value, now) → TakesSigned width value before now
 taken_signed_takes width value before now some given =

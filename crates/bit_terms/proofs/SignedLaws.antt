@@ -4,7 +4,6 @@ use Rattle.std.proofs.lemmas.Int.{ints}
 use Rattle.std.proofs.lemmas.Bool.{cases_lt}
 use Rattle.bit_terms.specs.Signed.{twos_complement, signed_bits, FitsSigned, signed_of}
 use Rattle.bit_terms.proofs.BitsLaws.{length-unsigned_bits}
-use Rattle.bit_terms.proofs.OctetsLaws.{same_from_unsigned_bits}
 
 pub length-signed_bits : (width : ℕ) (value : ℤ) → length (signed_bits width value) ≡ width
 length-signed_bits width value = length-unsigned_bits width (twos_complement width value)
@@ -48,10 +47,3 @@ twos_complement-signed_of width number some fits = ⊎_elim below above (cases_l
 
     above : 2 ^ (width - 1) ≤ number → twos_complement width (signed_of width number) ≡ number
     above h = rw (le-ltb number (2 ^ (width - 1)) h) (rw (minus number (2 ^ width) fits) (omega arith))
-
--- Two signed values that fit a field and have the same bits are one.
-pub same_from_signed_bits : (width : ℕ) (a b : ℤ) → 1 ≤ width → FitsSigned width a → FitsSigned width b → signed_bits width a ≡ signed_bits width b → a ≡ b
-same_from_signed_bits width a b some fits_a fits_b same =
-    sym (signed_of-twos_complement width a some fits_a)
-    ∙ ap (signed_of width) (same_from_unsigned_bits width _ _ (twos_complement-lt width a some fits_a) (twos_complement-lt width b some fits_b) same)
-    ∙ signed_of-twos_complement width b some fits_b

@@ -7,7 +7,7 @@ abbrev pub octets_bits : List ℕ → List Bool
 octets_bits octets = flat_map (unsigned_bits 8) octets
 
 -- The number that bits spell, the most significant first: a one counts two to the power of the number of bits after it.
-unfoldable pub number_of : List Bool → ℕ
-number_of [] = 0
-number_of (true ∷ bits) = 2 ^ length bits + number_of bits
-number_of (false ∷ bits) = number_of bits
+unfoldable pub number_spelled : List Bool → ℕ
+number_spelled [] = 0
+number_spelled (true ∷ bits) = 2 ^ length bits + number_spelled bits
+number_spelled (false ∷ bits) = number_spelled bits

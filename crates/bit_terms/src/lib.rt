@@ -1,6 +1,8 @@
-//! The bits of the air-ground messages as mathematics: the bits of a number, of octets and of a signed field, and reading as a function.
+//! The bits of the air-ground messages as mathematics: the bits of a number, of octets and of a
+//! signed field, and reading as a function.
 //!
-//! This crate has definitions and laws alone, and no code. Everything that writes or reads bits stands above it: `adsc_bits` says by it what
-//! its writer writes and its reader reads, and the crates of groups, downlinks, requests and envelopes say by it what a payload is.
-//! Begin with specs/Bits.antt, then specs/Reading.antt; proofs/ has the laws.
+//! This crate has definitions and laws alone, and no code. Everything that writes or reads bits
+//! stands above it: `adsc_bits` says by it what its writer writes and its reader reads, and the
+//! crates of groups, downlinks, requests and envelopes say by it what a payload is. Begin with
+//! specs/Bits.antt, then specs/Reading.antt; proofs/ has the laws.
 #![tactic(auto)]

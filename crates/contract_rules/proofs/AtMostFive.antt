@@ -1,84 +1,165 @@
--- At most five links are live.
-use Rattle.std.proofs.Common.{◌≡◌, ℕ, zero, suc, ◌+◌, ◌<◌, ◌≤◌, Bool, true, false, cond, not, ◌&&◌, ◌||◌, List, [], ◌∷◌, refl, ap, sym, ◌∙◌, arith, eqb}
-use Rattle.std.proofs.lemmas.Bool.{eqb-true, ltb-true, and_parts}
-use Rattle.contract_rules.specs.Limits.{max_live_links, links_limit}
+-- At most five links are live, and each stands once in the list.
+use Rattle.std.proofs.Common.{◌≡◌, ℕ, suc, ◌+◌, ◌-◌, ◌≤◌, Bool, true, false, cond, not, ◌&&◌, ◌||◌, ◌==◌, List, [], ◌∷◌, length, Option, Some, None, refl, ap, sym, ◌∙◌, arith, eqb, subst}
+use Rattle.std.specs.Prelude.{nat_eq, nat_lt}
+use Rattle.std.specs.List.{list_any, IsDistinct, AllByRecursion}
+use Rattle.std.proofs.lemmas.Bool.{ltb-true, eqb-true, and_parts}
+use Rattle.contract_rules.specs.Configuration.{Configuration, max_live_links}
 use Rattle.contract_rules.specs.Messages.{is_request}
-use Rattle.contract_rules.specs.Acts.{Act, Said, concerns, is_cancel_all}
-use Rattle.contract_rules.specs.LiveLinks.{Noted, story, is_connected, is_live, has_room, live_count, count_below, admits}
+use Rattle.contract_rules.specs.Acts.{Act, Said, Malformed, Moved, Ticked, Crew, is_cancel_all}
+use Rattle.contract_rules.specs.LiveLinks.{Noted, without, live_links, is_live, has_room, admits}
 use Rattle.contract_rules.specs.Verdicts.{noted_over, past_of}
-use Rattle.contract_rules.proofs.Steps.{connected_step}
+use Rattle.contract_rules.proofs.Steps.{eqb_turned, or_parts}
+use Rattle.contract_rules.proofs.Unchanged.{without_absent}
 
--- A test that holds less often counts less.
-pub count_le : (n : ℕ) (less more : ℕ → Bool) → ((k : ℕ) → k < n → less k ≡ true → more k ≡ true) → count_below n less ≤ count_below n more
-count_le zero less more implies = omega arith
-count_le (suc n) less more implies = at (less n) refl (count_le n less more (λ k below. implies k (omega arith))) (implies n (omega arith))
-  where
-    at : (b : Bool) → less n ≡ b → count_below n less ≤ count_below n more → (less n ≡ true → more n ≡ true)
-        → count_below n less + cond b 1 0 ≤ count_below n more + cond (more n) 1 0
-    at true e before here =
-        let e2 : ◌≡◌ {A = ℕ} (cond (more n) 1 0) 1 = ap (λ b. cond b 1 0) (here e) in omega (arith, e2)
-    at false e before here = omega arith
+-- ---- links without one of them
 
--- A test that holds less often but at one number counts at most one more.
-pub count_one : (n link : ℕ) (less more : ℕ → Bool) → ((k : ℕ) → eqb link k ≡ false → less k ≡ true → more k ≡ true) → count_below n less ≤ count_below n more + 1
-count_one zero link less more implies = omega arith
-count_one (suc n) link less more implies = at (eqb link n) refl (count_one n link less more implies)
+-- What holds of each link of a list holds of each that is left.
+pub all_without : (P : ℕ → Type 0) (link : ℕ) (links : List ℕ) → AllByRecursion P links → AllByRecursion P (without link links)
+all_without P link [] all = all
+all_without P link (next ∷ links) all = at (link == next) (all_without P link links all.1)
   where
-    apart : (k : ℕ) → k < n → link ≡ n → eqb link k ≡ false
-    apart k below same = split (eqb link k) refl
+    at : (b : Bool) → AllByRecursion P (without link links) → AllByRecursion P (cond (not b) (next ∷ without link links) (without link links))
+    at true rest = rest
+    at false rest = (all.0, rest)
+
+pub distinct_without : (link : ℕ) (links : List ℕ) → IsDistinct eqb links → IsDistinct eqb (without link links)
+unfolding IsDistinct
+distinct_without link [] distinct = distinct
+distinct_without link (next ∷ links) distinct = at (link == next) (distinct_without link links distinct.1)
+  where
+    at : (b : Bool) → IsDistinct eqb (without link links) → IsDistinct eqb (cond (not b) (next ∷ without link links) (without link links))
+    at true rest = rest
+    at false rest = (all_without (λ y. eqb next y ≡ false) link links distinct.0, rest)
+
+pub length_without : (link : ℕ) (links : List ℕ) → length (without link links) ≤ length links
+length_without link [] = omega arith
+length_without link (next ∷ links) = at (link == next) (length_without link links)
+  where
+    at : (b : Bool) → length (without link links) ≤ length links → length (cond (not b) (next ∷ without link links) (without link links)) ≤ suc (length links)
+    at true rest = omega (arith, rest)
+    at false rest = omega (arith, rest)
+
+-- Taking a second link out leaves no more.
+pub length_without_both : (one other : ℕ) (links : List ℕ) → length (without one (without other links)) ≤ length (without one links)
+length_without_both one other [] = omega arith
+length_without_both one other (next ∷ links) = at (one == next) refl (other == next) (length_without_both one other links)
+  where
+    at : (a : Bool) → (one == next) ≡ a → (b : Bool) → length (without one (without other links)) ≤ length (without one links)
+        → length (without one (cond (not b) (next ∷ without other links) (without other links))) ≤ length (cond (not a) (next ∷ without one links) (without one links))
+    at true e true rest = rest
+    at true e false rest = subst (λ c. length (cond (not c) (next ∷ without one (without other links)) (without one (without other links))) ≤ length (without one links)) (sym e) rest
+    at false e true rest = omega (arith, rest)
+    at false e false rest =
+        subst (λ c. length (cond (not c) (next ∷ without one (without other links)) (without one (without other links))) ≤ suc (length (without one links))) (sym e) (omega (arith, rest))
+
+-- A link that differs from each of some links is not among them.
+pub absent_from : (link : ℕ) (links : List ℕ) → AllByRecursion (λ y. eqb link y ≡ false) links → list_any (nat_eq link) links ≡ false
+absent_from link [] all = refl
+absent_from link (next ∷ links) all = ap (λ b. b || list_any (nat_eq link) links) all.0 ∙ absent_from link links all.1
+
+pub apart_from : (link : ℕ) (links : List ℕ) → list_any (nat_eq link) links ≡ false → AllByRecursion (λ y. eqb link y ≡ false) links
+apart_from link [] absent = tt
+apart_from link (next ∷ links) absent =
+    let parts = or_parts (link == next) (list_any (nat_eq link) links) absent in (parts.0, apart_from link links parts.1)
+
+-- Of distinct links at most one is taken out.
+pub length_but_one : (link : ℕ) (links : List ℕ) → IsDistinct eqb links → length links ≤ length (without link links) + 1
+unfolding IsDistinct
+length_but_one link [] distinct = omega arith
+length_but_one link (next ∷ links) distinct = at (link == next) refl (length_but_one link links distinct.1)
+  where
+    at : (b : Bool) → (link == next) ≡ b → length links ≤ length (without link links) + 1
+        → suc (length links) ≤ length (cond (not b) (next ∷ without link links) (without link links)) + 1
+    at true e rest =
+        let absent : list_any (nat_eq link) links ≡ false
+        = ap (λ n. list_any (nat_eq n) links) (eqb-true link next e) ∙ absent_from next links distinct.0 in
+        let same : length (without link links) ≡ length links = ap length (without_absent link links absent) in omega (arith, same)
+    at false e rest = omega (arith, rest)
+
+-- ---- the places of the five connections
+
+-- The live links are distinct and at most five, and at most four beside one for which a connection is kept.
+pub record KeepsPlaces (kept : Option ℕ) (live : List ℕ) : Type 0 where
+  pub distinct : IsDistinct eqb live
+  pub few : length live ≤ max_live_links
+  pub others : (link : ℕ) → kept ≡ Some link → length (without link live) + 1 ≤ max_live_links
+
+pub places_admitted : (kept : Option ℕ) (link : ℕ) (live : List ℕ) → KeepsPlaces kept live
+    → list_any (nat_eq link) live ≡ false → has_room kept link live ≡ true → KeepsPlaces kept (link ∷ live)
+unfolding IsDistinct
+places_admitted None link live places absent room =
+    record {
+      distinct = (apart_from link live absent, places.distinct);
+      few = let below = ltb-true (length live) max_live_links room in omega (arith, below);
+      others = λ other is. absurd (let h : None ≡ Some other = is in cc);
+    }
+places_admitted (Some kept) link live places absent room = at (link == kept) refl room
+  where
+    beside : (b : Bool) → (link == kept) ≡ b → length (without kept live) + cond b 0 1 + 1 ≤ max_live_links
+        → (other : ℕ) → Some kept ≡ Some other → length (without other (link ∷ live)) + 1 ≤ max_live_links
+    beside b e fits other is =
+        let same : kept ≡ other = cc in
+        subst (λ n. length (without n (link ∷ live)) + 1 ≤ max_live_links) same
+        (subst (λ c. length (cond (not c) (link ∷ without kept live) (without kept live)) + 1 ≤ max_live_links) (sym (eqb_turned kept link ∙ e)) (added b fits))
       where
-        split : (b : Bool) → eqb link k ≡ b → eqb link k ≡ false
-        split true e = absurd (omega (arith, eqb-true link k e))
-        split false e = e
+        added : (b : Bool) → length (without kept live) + cond b 0 1 + 1 ≤ max_live_links
+            → length (cond (not b) (link ∷ without kept live) (without kept live)) + 1 ≤ max_live_links
+        added true fits = omega (arith, fits)
+        added false fits = omega (arith, fits)
 
-    one : (b : Bool) → cond b 1 0 ≤ 1
-    one true = omega arith
-    one false = omega arith
+    at : (b : Bool) → (link == kept) ≡ b → (b || nat_lt (length (without kept live)) (max_live_links - 1)) ≡ true → KeepsPlaces (Some kept) (link ∷ live)
+    at true e room =
+        let whole : length (without kept live) ≡ length live
+        = ap (λ n. length (without n live)) (sym (eqb-true link kept e)) ∙ ap length (without_absent link live absent) in
+        let fits = places.others kept refl in
+        record {
+          distinct = (apart_from link live absent, places.distinct);
+          few = omega (arith, whole, fits);
+          others = beside true e (omega (arith, fits));
+        }
+    at false e room =
+        let below = ltb-true (length (without kept live)) (max_live_links - 1) room in
+        let most = length_but_one kept live places.distinct in
+        record {
+          distinct = (apart_from link live absent, places.distinct);
+          few = omega (arith, below, most);
+          others = beside false e (omega (arith, below));
+        }
 
-    at : (b : Bool) → eqb link n ≡ b → count_below n less ≤ count_below n more + 1
-        → count_below n less + cond (less n) 1 0 ≤ count_below n more + cond (more n) 1 0 + 1
-    at true e before =
-        omega (arith, count_le n less more (λ k below. implies k (apart k below (eqb-true link n e))), one (less n))
-    at false e before = here (less n) refl
+pub places_ended : (kept : Option ℕ) (link : ℕ) (live : List ℕ) → KeepsPlaces kept live → KeepsPlaces kept (without link live)
+places_ended kept link live places =
+    record {
+      distinct = distinct_without link live places.distinct;
+      few = omega (arith, length_without link live, places.few);
+      others = λ other is. omega (arith, length_without_both other link live, places.others other is);
+    }
+
+pub places_after : (configuration : Configuration) (past : List Noted) (act : Act) → KeepsPlaces configuration.kept (live_links past)
+    → KeepsPlaces configuration.kept (live_links (noted_over configuration past act ∷ past))
+places_after configuration past (Said link message) places = at (admits configuration past (Said link message)) refl (is_cancel_all (Said link message))
+  where
+    at : (a : Bool) → admits configuration past (Said link message) ≡ a → (e : Bool)
+        → KeepsPlaces configuration.kept (cond a (link ∷ live_links past) (cond e (without link (live_links past)) (live_links past)))
+    at true admitted e =
+        let last = and_parts (is_request message && not (is_live link past)) (has_room configuration.kept link (live_links past)) admitted in
+        let first = and_parts (is_request message) (not (is_live link past)) last.0 in
+        places_admitted configuration.kept link (live_links past) places (not_live (is_live link past) refl first.1) last.1
       where
-        here : (b : Bool) → less n ≡ b → count_below n less + cond b 1 0 ≤ count_below n more + cond (more n) 1 0 + 1
-        here false is = omega arith
-        here true is = let e2 : ◌≡◌ {A = ℕ} (cond (more n) 1 0) 1 = ap (λ b. cond b 1 0) (implies n e is) in omega (arith, e2)
+        not_live : (b : Bool) → is_live link past ≡ b → not b ≡ true → is_live link past ≡ false
+        not_live true is e = absurd (let h : false ≡ true = e in cc)
+        not_live false is e = is
+    at false barred true = places_ended configuration.kept link (live_links past) places
+    at false barred false = places
+places_after configuration past (Malformed link fault) places = places
+places_after configuration past (Moved before now) places = places
+places_after configuration past (Ticked tick) places = places
+places_after configuration past (Crew on) places = places
 
--- An act that admits no link makes none live.
-pub live_before : (past : List Noted) (act : Act) (link : ℕ) → (concerns link act ≡ true → admits past act ≡ false)
-    → is_live link (noted_over past act ∷ past) ≡ true → is_live link past ≡ true
-live_before past act link barred = at (concerns link act) refl
-  where
-    after : admits past act ≡ false → is_connected (noted_over past act ∷ story link past) ≡ true → is_live link past ≡ true
-    after no_admission live =
-        (and_parts (not (is_cancel_all act)) (is_live link past)
-        (sym (connected_step (noted_over past act) (story link past) ∙ ap (λ a. a || (not (is_cancel_all act) && is_live link past)) no_admission) ∙ live)).1
+pub keeps_places : (configuration : Configuration) (acts : List Act) → KeepsPlaces configuration.kept (live_links (past_of configuration acts))
+unfolding IsDistinct
+keeps_places configuration [] = record { distinct = tt; few = omega arith; others = λ link is. omega arith }
+keeps_places configuration (act ∷ acts) = places_after configuration (past_of configuration acts) act (keeps_places configuration acts)
 
-    at : (b : Bool) → concerns link act ≡ b → is_connected (cond b (noted_over past act ∷ story link past) (story link past)) ≡ true → is_live link past ≡ true
-    at true own live = after (barred own) live
-    at false other live = live
-
-pub one_more : (past : List Noted) (act : Act) → live_count past ≤ max_live_links → live_count (noted_over past act ∷ past) ≤ max_live_links
-unfolding live_count
-one_more past (Said other message) before = at (admits past (Said other message)) refl
-  where
-    at : (b : Bool) → admits past (Said other message) ≡ b → count_below links_limit (λ k. is_live k (noted_over past (Said other message) ∷ past)) ≤ max_live_links
-    at false barred =
-        omega (arith, count_le links_limit (λ k. is_live k (noted_over past (Said other message) ∷ past)) (λ k. is_live k past) (λ k below. live_before past (Said other message) k (λ own. barred)), before)
-    at true admitted =
-        let room : count_below links_limit (λ k. is_live k past) < max_live_links =
-        ltb-true _ max_live_links (and_parts (is_request message && not (is_live other past)) (has_room past) admitted).1 in
-        omega (
-          arith,
-          room,
-          count_one links_limit other (λ k. is_live k (noted_over past (Said other message) ∷ past)) (λ k. is_live k past)
-              (λ k apart. live_before past (Said other message) k (λ own. absurd (let h : true ≡ false = sym own ∙ apart in cc))),
-        )
-one_more past act before =
-    omega (arith, count_le links_limit (λ k. is_live k (noted_over past act ∷ past)) (λ k. is_live k past) (λ k below. live_before past act k (λ own. refl)), before)
-
-pub at_most_five_live : (acts : List Act) → live_count (past_of acts) ≤ max_live_links
-unfolding live_count
-at_most_five_live [] = omega arith
-at_most_five_live (act ∷ acts) = one_more (past_of acts) act (at_most_five_live acts)
+pub at_most_five_live : (configuration : Configuration) (acts : List Act)
+    → (length (live_links (past_of configuration acts)) ≤ max_live_links) × IsDistinct nat_eq (live_links (past_of configuration acts))
+at_most_five_live configuration acts = let places = keeps_places configuration acts in (places.few, places.distinct)

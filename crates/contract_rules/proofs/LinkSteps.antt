@@ -1,87 +1,101 @@
--- One act more, for code that keeps a link's state: contracts in force, emergency mode, anchor and numbers after an act
--- are functions of the act and of what they were.
-use Rattle.std.proofs.Common.{◌≡◌, Bool, true, false, cond, not, ◌&&◌, ◌||◌, List, [], ◌∷◌, Option, Some, None, refl, ap, sym, ◌∙◌}
+-- One act more, for code that keeps a link's state: contracts in force, emergency mode and anchor after an act are functions
+-- of the act and of what they were.
+use Rattle.std.proofs.Common.{◌≡◌, ℕ, Bool, true, false, cond, not, ◌&&◌, List, [], ◌∷◌, Option, Some, None, is_some, option_map, refl, ap, sym, ◌∙◌}
+use Rattle.std.specs.Prelude.{unwrap_or}
+use Rattle.std.specs.Option.{option_or}
 use Rattle.std.proofs.Math.Bool.{and-false, and-true}
-use Rattle.contract_rules.specs.Messages.{Kind, number_of}
-use Rattle.contract_rules.specs.Acts.{is_crew_act, is_crew_on, is_cancel_all}
-use Rattle.contract_rules.specs.LookingBack.{last_such, from_last, after_last, none_such, unless, or_else}
-use Rattle.contract_rules.specs.LiveLinks.{Noted, is_connected, session_of}
+use Rattle.contract_rules.specs.Messages.{Kind}
+use Rattle.contract_rules.specs.Acts.{is_crew_act, is_crew_on}
+use Rattle.contract_rules.specs.LookingBack.{last_such, from_last, after_last, none_such, unless}
+use Rattle.contract_rules.specs.LiveLinks.{Noted, is_live, admits_link, session_of}
 use Rattle.contract_rules.specs.InForce.{Contract, contract_made, cancels, in_force}
-use Rattle.contract_rules.specs.Emergency.{is_crew_emergency, is_in_emergency_mode, accepted_mode_cancel, turned_on, is_anchor, emergency_anchor, anchor_time, time_of_act}
-use Rattle.contract_rules.proofs.Steps.{connected_step, session_step, session_next}
+use Rattle.contract_rules.specs.Emergency.{is_crew_emergency, is_in_emergency_mode, accepted_mode_cancel, turned_on, is_anchor, emergency_anchor, anchor_time}
+use Rattle.contract_rules.specs.Retellings.{ends_session}
+use Rattle.contract_rules.proofs.Steps.{session_step, session_next, session_is_live}
 
-pub or_none : {B : Type 0} (o : Option B) → or_else o None ≡ o
+pub or_none : {B : Type 0} (o : Option B) → option_or o None ≡ o
 or_none None = refl
 or_none (Some b) = refl
 
--- The contract in force after an act: what the act makes, where it admits the link; in a session that goes on, what the
--- act makes, or else what was in force and is not cancelled; else none.
-abbrev pub in_force_after : Kind → Noted → Bool → Option Contract → Option Contract
-in_force_after kind noted live held =
-    cond noted.admits (contract_made kind noted)
-    (cond (not (is_cancel_all noted.act) && live)
-    (or_else (contract_made kind noted) (unless (λ c. cancels (number_of c.request) noted) held))
+-- ---- contracts in force
+
+-- The contract in force after an act: what the act makes, where it admits the link; none, where it ends the session; else,
+-- in a session, what the act makes, or else what was in force and is not cancelled.
+abbrev pub in_force_after : Kind → ℕ → Noted → Bool → Option Contract → Option Contract
+in_force_after kind link noted live held =
+    cond (admits_link link noted) (contract_made kind noted)
+    (cond (not (ends_session link noted.act) && live)
+    (option_or (contract_made kind noted) (unless (λ c. cancels (Some c) noted) held))
     None)
 
-pub in_force_step : (kind : Kind) (noted : Noted) (told : List Noted)
-    → in_force kind (session_of (noted ∷ told)) ≡ in_force_after kind noted (is_connected told) (in_force kind (session_of told))
-in_force_step kind noted told = ap (in_force kind) (session_step noted told) ∙ at noted.admits (is_cancel_all noted.act) (is_connected told)
+pub in_force_step : (kind : Kind) (link : ℕ) (noted : Noted) (heard : List Noted)
+    → in_force kind (session_of link (noted ∷ heard)) ≡ in_force_after kind link noted (is_live link heard) (in_force kind (session_of link heard))
+in_force_step kind link noted heard =
+    ap (in_force kind) (session_step link noted heard)
+    ∙ at (admits_link link noted) (ends_session link noted.act) (session_of link heard) (is_live link heard) (session_is_live link heard)
   where
-    at : (a ends live : Bool) → in_force kind (session_next a ends noted live (session_of told))
-        ≡ cond a (contract_made kind noted) (cond (not ends && live) (or_else (contract_made kind noted) (unless (λ c. cancels (number_of c.request) noted) (in_force kind (session_of told)))) None)
-    at true ends live = or_none (contract_made kind noted)
-    at false true live = refl
-    at false false true = refl
-    at false false false = refl
+    at : (a ends : Bool) (session : Option (List Noted)) (live : Bool) → is_some session ≡ live
+        → in_force kind (session_next a ends noted session)
+        ≡ cond a (contract_made kind noted) (cond (not ends && live) (option_or (contract_made kind noted) (unless (λ c. cancels (Some c) noted) (in_force kind session))) None)
+    at true ends session live is = or_none (contract_made kind noted)
+    at false true session live is = refl
+    at false false None live is =
+        ap (λ l. cond l (option_or (contract_made kind noted) None) None) is
+    at false false (Some acts) live is =
+        ap (λ l. cond l (option_or (contract_made kind noted) (unless (λ c. cancels (Some c) noted) (in_force kind (Some acts)))) None) is
 
--- A link that an act admits is in emergency mode where the last crew act is on.
-pub mode_at_admission : (told : List Noted) → is_in_emergency_mode true told ≡ is_crew_emergency told
-mode_at_admission told = and-true (is_crew_emergency told)
+-- ---- emergency mode
 
--- After a crew act a link is in emergency mode where it is live and the act is on.
-pub mode_after_crew : (noted : Noted) (told : List Noted) → is_crew_act noted.act ≡ true
-    → is_in_emergency_mode false (noted ∷ told) ≡ (is_connected (noted ∷ told) && is_crew_on noted.act)
-mode_after_crew noted told crew =
-    elim (is_connected (noted ∷ told)) as (λ l. (l && turned_on (cond (is_crew_act noted.act) (Some noted) (last_such (λ n _. is_crew_act n.act) told)) && none_such (λ n _. accepted_mode_cancel n.act n.verdict) (after_last (λ n _. is_crew_act n.act) (cond l (noted ∷ cond noted.admits [] (from_last (λ n _. n.admits) told)) []))) ≡ (l && is_crew_on noted.act)) [
-      | true ↦ ap (λ c. turned_on (cond c (Some noted) (last_such (λ n _. is_crew_act n.act) told)) && none_such (λ n _. accepted_mode_cancel n.act n.verdict) (cond c [] (noted ∷ after_last (λ n _. is_crew_act n.act) (cond noted.admits [] (from_last (λ n _. n.admits) told))))) crew
+-- After a crew act a link is in emergency mode where it has a session and the act is on.
+pub mode_after_crew : (link : ℕ) (noted : Noted) (heard : List Noted) → is_crew_act noted.act ≡ true
+    → is_in_emergency_mode (session_of link (noted ∷ heard)) (noted ∷ heard) ≡ (is_live link (noted ∷ heard) && is_crew_on noted.act)
+mode_after_crew link noted heard crew =
+    elim (is_live link (noted ∷ heard)) as (λ l. is_in_emergency_mode (cond l (Some (noted ∷ cond (admits_link link noted) [] (from_last (λ n _. admits_link link n) heard))) None) (noted ∷ heard) ≡ (l && is_crew_on noted.act)) [
+      | true ↦ ap (λ c. turned_on (cond c (Some noted) (last_such (λ n _. is_crew_act n.act) heard)) && none_such (λ n _. accepted_mode_cancel n.act n.verdict) (cond c [] (noted ∷ after_last (λ n _. is_crew_act n.act) (cond (admits_link link noted) [] (from_last (λ n _. admits_link link n) heard))))) crew
           ∙ and-true (is_crew_on noted.act)
       | false ↦ refl
     ]
 
-pub and_moved : (a b c : Bool) → (a && (b && c)) ≡ ((a && c) && b)
-and_moved true true c = sym (and-true c)
-and_moved true false c = sym (and-false c)
-and_moved false b c = refl
+pub and_moved : (a b c : Bool) → (a && (b && c)) ≡ (b && (a && c))
+and_moved true b c = refl
+and_moved false b c = sym (and-false b)
 
--- After any other act: where it admits the link, the last crew act is on; else the link was in the mode, and the act is
--- neither a cancel-all nor an accepted cancel of the mode.
-abbrev pub mode_after_act : Noted → Bool → Bool → Bool
-mode_after_act noted crew mode =
-    cond noted.admits (crew && not (accepted_mode_cancel noted.act noted.verdict))
-    (not (is_cancel_all noted.act) && mode && not (accepted_mode_cancel noted.act noted.verdict))
+-- After any other act: where it admits the link, the last crew act is on; none, where it ends the session; else the link was in
+-- the mode; and the act is no accepted cancel of the mode.
+abbrev pub mode_after_act : ℕ → Noted → Bool → Bool → Bool
+mode_after_act link noted crew mode =
+    cond (admits_link link noted) (crew && not (accepted_mode_cancel noted.act noted.verdict))
+    (not (ends_session link noted.act) && (not (accepted_mode_cancel noted.act noted.verdict) && mode))
 
-pub mode_after_other : (noted : Noted) (told : List Noted) → is_crew_act noted.act ≡ false
-    → is_in_emergency_mode false (noted ∷ told) ≡ mode_after_act noted (is_crew_emergency told) (is_in_emergency_mode false told)
-mode_after_other noted told other =
-    (λ i. connected_step noted told i && is_crew_emergency (noted ∷ told) && none_such (λ n _. accepted_mode_cancel n.act n.verdict) (after_last (λ n _. is_crew_act n.act) (session_step noted told i)))
-    ∙ at noted.admits (is_cancel_all noted.act) (is_connected told)
+pub mode_after_other : (link : ℕ) (noted : Noted) (heard : List Noted) → is_crew_act noted.act ≡ false
+    → is_in_emergency_mode (session_of link (noted ∷ heard)) (noted ∷ heard)
+    ≡ mode_after_act link noted (is_crew_emergency heard) (is_in_emergency_mode (session_of link heard) heard)
+mode_after_other link noted heard other =
+    ap (λ session. is_in_emergency_mode session (noted ∷ heard)) (session_step link noted heard)
+    ∙ at (admits_link link noted) (ends_session link noted.act) (session_of link heard)
   where
-    at : (a e l : Bool) → ((a || (not e && l)) && is_crew_emergency (noted ∷ told) && none_such (λ n _. accepted_mode_cancel n.act n.verdict) (after_last (λ n _. is_crew_act n.act) (session_next a e noted l (cond l (from_last (λ n _. n.admits) told) []))))
-        ≡ cond a (is_crew_emergency told && not (accepted_mode_cancel noted.act noted.verdict))
-        (not e && (l && is_crew_emergency told && none_such (λ n _. accepted_mode_cancel n.act n.verdict) (after_last (λ n _. is_crew_act n.act) (cond l (from_last (λ n _. n.admits) told) []))) && not (accepted_mode_cancel noted.act noted.verdict))
-    at true e l =
-        ap (λ c. turned_on (cond c (Some noted) (last_such (λ n _. is_crew_act n.act) told)) && none_such (λ n _. accepted_mode_cancel n.act n.verdict) (cond c [] (noted ∷ []))) other
-        ∙ ap (λ b. is_crew_emergency told && b) (and-true (not (accepted_mode_cancel noted.act noted.verdict)))
-    at false true l = refl
-    at false false false = refl
-    at false false true =
-        ap (λ c. turned_on (cond c (Some noted) (last_such (λ n _. is_crew_act n.act) told)) && none_such (λ n _. accepted_mode_cancel n.act n.verdict) (cond c [] (noted ∷ after_last (λ n _. is_crew_act n.act) (from_last (λ n _. n.admits) told)))) other
-        ∙ and_moved (is_crew_emergency told) (not (accepted_mode_cancel noted.act noted.verdict)) (none_such (λ n _. accepted_mode_cancel n.act n.verdict) (after_last (λ n _. is_crew_act n.act) (from_last (λ n _. n.admits) told)))
+    grown : (acts : List Noted)
+        → is_in_emergency_mode (Some (noted ∷ acts)) (noted ∷ heard)
+        ≡ (is_crew_emergency heard && (not (accepted_mode_cancel noted.act noted.verdict) && none_such (λ n _. accepted_mode_cancel n.act n.verdict) (after_last (λ n _. is_crew_act n.act) acts)))
+    grown acts =
+        ap (λ c. turned_on (cond c (Some noted) (last_such (λ n _. is_crew_act n.act) heard)) && none_such (λ n _. accepted_mode_cancel n.act n.verdict) (cond c [] (noted ∷ after_last (λ n _. is_crew_act n.act) acts))) other
+
+    at : (a e : Bool) (session : Option (List Noted)) → is_in_emergency_mode (session_next a e noted session) (noted ∷ heard)
+        ≡ cond a (is_crew_emergency heard && not (accepted_mode_cancel noted.act noted.verdict))
+        (not e && (not (accepted_mode_cancel noted.act noted.verdict) && is_in_emergency_mode session heard))
+    at true e session = grown [] ∙ ap (λ b. is_crew_emergency heard && b) (and-true (not (accepted_mode_cancel noted.act noted.verdict)))
+    at false true session = refl
+    at false false None = sym (and-false (not (accepted_mode_cancel noted.act noted.verdict)))
+    at false false (Some acts) =
+        grown acts
+        ∙ and_moved (is_crew_emergency heard) (not (accepted_mode_cancel noted.act noted.verdict)) (none_such (λ n _. accepted_mode_cancel n.act n.verdict) (after_last (λ n _. is_crew_act n.act) acts))
+
+-- ---- the anchor
 
 -- The anchor's time after an act: the time of the act where it is an anchor; else as it was.
-pub anchor_time_step : (noted : Noted) (told : List Noted) → anchor_time (noted ∷ told) ≡ cond (is_anchor noted told) noted.time (anchor_time told)
-anchor_time_step noted told =
-    elim (is_anchor noted told) as (λ b. time_of_act (cond b (Some noted) (emergency_anchor told)) ≡ cond b noted.time (anchor_time told)) [
+pub anchor_time_step : (link : ℕ) (noted : Noted) (heard : List Noted) → anchor_time link (noted ∷ heard) ≡ cond (is_anchor link noted heard) noted.time (anchor_time link heard)
+anchor_time_step link noted heard =
+    elim (is_anchor link noted heard) as (λ b. unwrap_or (option_map (λ n. n.time) (cond b (Some noted) (emergency_anchor link heard))) 0 ≡ cond b noted.time (anchor_time link heard)) [
       | true ↦ refl
       | false ↦ refl
     ]

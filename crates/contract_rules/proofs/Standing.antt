@@ -1,8 +1,9 @@
 -- What stands was begun, and not ended since; and the other way round.
-use Rattle.std.proofs.Common.{◌≡◌, Bool, true, false, cond, not, ◌&&◌, List, [], ◌∷◌, ◌++◌, Option, Some, None, refl, ap, sym, ◌∙◌}
+use Rattle.std.proofs.Common.{◌≡◌, Bool, true, false, cond, not, ◌&&◌, List, [], ◌∷◌, ◌++◌, Option, Some, None, is_some, refl, ap, sym, ◌∙◌}
 use Rattle.std.specs.List.{list_all}
+use Rattle.std.specs.Option.{option_or}
 use Rattle.std.proofs.lemmas.Bool.{and_parts}
-use Rattle.contract_rules.specs.LookingBack.{standing, stands, unless, or_else}
+use Rattle.contract_rules.specs.LookingBack.{standing, unless}
 
 pub unless_open : {B : Type 0} (ended : B → Bool) (s : Option B) (b : B) → unless ended s ≡ Some b → (s ≡ Some b) × (ended b ≡ false)
 unless_open ended None b e = absurd (let h : None ≡ Some b = e in cc)
@@ -19,7 +20,7 @@ module _ {A B : Type 0} (begins : A → Option B) (ends : B → A → Bool) wher
     pub older : List A
     pub split : past ≡ newer ++ act ∷ older
     pub begun : begins act ≡ Some b
-    pub no_other : list_all (λ a. not (stands (begins a))) newer ≡ true
+    pub no_other : list_all (λ a. not (is_some (begins a))) newer ≡ true
     pub not_ended : list_all (λ a. not (ends b a)) newer ≡ true
 
   pub stood_next : (act : A) (past : List A) (b : B) → begins act ≡ None → ends b act ≡ false → Stood past b → Stood (act ∷ past) b
@@ -30,7 +31,7 @@ module _ {A B : Type 0} (begins : A → Option B) (ends : B → A → Bool) wher
         older = stood.older;
         split = ap (λ acts. act ∷ acts) stood.split;
         begun = stood.begun;
-        no_other = ap (λ o. not (stands o) && list_all (λ a. not (stands (begins a))) stood.newer) none ∙ stood.no_other;
+        no_other = ap (λ o. not (is_some o) && list_all (λ a. not (is_some (begins a))) stood.newer) none ∙ stood.no_other;
         not_ended = ap (λ e. not e && list_all (λ a. not (ends b a)) stood.newer) kept ∙ stood.not_ended;
       }
 
@@ -39,7 +40,7 @@ module _ {A B : Type 0} (begins : A → Option B) (ends : B → A → Bool) wher
   stood_if (act ∷ past) b e = at (stood_if past b) (begins act) refl e
     where
       at : (standing begins ends past ≡ Some b → Stood past b) → (o : Option B) → begins act ≡ o
-          → or_else o (unless (λ c. ends c act) (standing begins ends past)) ≡ Some b → Stood (act ∷ past) b
+          → option_or o (unless (λ c. ends c act) (standing begins ends past)) ≡ Some b → Stood (act ∷ past) b
       at before (Some c) now e =
           record { newer = []; act = act; older = past; split = refl; begun = now ∙ e; no_other = refl; not_ended = refl }
       at before None now e =
@@ -47,25 +48,25 @@ module _ {A B : Type 0} (begins : A → Option B) (ends : B → A → Bool) wher
           stood_next act past b now parts.1 (before parts.0)
 
   pub stands_from : (newer : List A) (act : A) (older : List A) (b : B) → begins act ≡ Some b
-      → list_all (λ a. not (stands (begins a))) newer ≡ true → list_all (λ a. not (ends b a)) newer ≡ true
+      → list_all (λ a. not (is_some (begins a))) newer ≡ true → list_all (λ a. not (ends b a)) newer ≡ true
       → standing begins ends (newer ++ act ∷ older) ≡ Some b
   stands_from [] act older b begun none kept =
-      ap (λ o. or_else o (unless (λ c. ends c act) (standing begins ends older))) begun
+      ap (λ o. option_or o (unless (λ c. ends c act) (standing begins ends older))) begun
   stands_from (next ∷ newer) act older b begun none kept =
       at (begins next) refl (ends b next) refl
-      (and_parts (not (stands (begins next))) (list_all (λ a. not (stands (begins a))) newer) none)
+      (and_parts (not (is_some (begins next))) (list_all (λ a. not (is_some (begins a))) newer) none)
       (and_parts (not (ends b next)) (list_all (λ a. not (ends b a)) newer) kept)
       (stands_from newer act older b begun)
     where
       at : (o : Option B) → begins next ≡ o → (x : Bool) → ends b next ≡ x
-          → (not (stands (begins next)) ≡ true) × (list_all (λ a. not (stands (begins a))) newer ≡ true)
+          → (not (is_some (begins next)) ≡ true) × (list_all (λ a. not (is_some (begins a))) newer ≡ true)
           → (not (ends b next) ≡ true) × (list_all (λ a. not (ends b a)) newer ≡ true)
-          → (list_all (λ a. not (stands (begins a))) newer ≡ true → list_all (λ a. not (ends b a)) newer ≡ true → standing begins ends (newer ++ act ∷ older) ≡ Some b)
+          → (list_all (λ a. not (is_some (begins a))) newer ≡ true → list_all (λ a. not (ends b a)) newer ≡ true → standing begins ends (newer ++ act ∷ older) ≡ Some b)
           → standing begins ends (next ∷ newer ++ act ∷ older) ≡ Some b
-      at (Some c) now x ended none kept before = absurd (let h : not (stands (begins next)) ≡ false = ap (λ o. not (stands o)) now in cc)
+      at (Some c) now x ended none kept before = absurd (let h : not (is_some (begins next)) ≡ false = ap (λ o. not (is_some o)) now in cc)
       at None now true ended none kept before = absurd (let h : not (ends b next) ≡ false = ap not ended in cc)
       at None now false ended none kept before =
-          ap (λ o. or_else o (unless (λ c. ends c next) (standing begins ends (newer ++ act ∷ older)))) now
+          ap (λ o. option_or o (unless (λ c. ends c next) (standing begins ends (newer ++ act ∷ older)))) now
           ∙ ap (unless (λ c. ends c next)) (before none.1 kept.1)
           ∙ ap (λ x. cond x None (Some b)) ended
 

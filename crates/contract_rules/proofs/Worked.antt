@@ -1,56 +1,142 @@
 -- Each worked history comes out by computation.
 use Rattle.std.specs.Prelude.{refl}
-use Rattle.contract_rules.specs.LiveLinks.{live_count}
-use Rattle.contract_rules.specs.Histories.{PeriodAndModuli, RepeatAndNumberInForce, LateralEventOnce, EmergencyMode, CancelledEmergencyMode, FifthOfSixLinks, SixthOfSixLinks, NewSession, AltitudeEventAndMalformed, IntentAskedFor, CancelOfUndefined, TwoMessages, MalformedLiveOrNot}
+use Rattle.contract_rules.specs.Histories.Links.{SixLinks, SixHighLinks, BesideKeptLink, KeptLinkGone, TwoLinks, NewSession, CancelAllAndRequest, NotLive, LatestSample}
+use Rattle.contract_rules.specs.Histories.Contracts.{RepeatAndNumberInForce, RepeatsOfEachKind, NumberOfAnother, CancelOfEachKind, Replacement, DemandNeverInForce, IntentAskedFor, CancelOfUndefined, TwoMessages, MalformedPayloads}
+use Rattle.contract_rules.specs.Histories.Reports.{PeriodAndModuli, NumbersInSeries, GroupsOfDemand, GreatestTick, Intervals}
+use Rattle.contract_rules.specs.Histories.Events.{LateralEventOnce, LateralEventAgain, DeviationToLeft, ClimbTooFast, DescentTooFast, AltitudeEventAndMalformed, AboveCeiling, AltitudeEventOnce, AltitudeEventAgain, WaypointChanges, FourEvents, NewEventContract}
+use Rattle.contract_rules.specs.Histories.Emergency.{EmergencyMode, CancelledEmergencyMode, SuspendedReports, EmergencyContract, CancelledEmergencyContract, DefaultInterval, RequestBeforeEmergency, SwitchedOnAgain, ModeOfNewSession}
 
-pub period_and_moduli : PeriodAndModuli
-unfolding live_count
-period_and_moduli = refl
+pub six_links : SixLinks
+six_links = refl
 
-pub repeat_and_number_in_force : RepeatAndNumberInForce
-unfolding live_count
-repeat_and_number_in_force = refl
+pub six_high_links : SixHighLinks
+six_high_links = refl
 
-pub lateral_event_once : LateralEventOnce
-unfolding live_count
-lateral_event_once = refl
+pub beside_kept_link : BesideKeptLink
+beside_kept_link = refl
 
-pub emergency_mode : EmergencyMode
-unfolding live_count
-emergency_mode = refl
+pub kept_link_gone : KeptLinkGone
+kept_link_gone = refl
 
-pub cancelled_emergency_mode : CancelledEmergencyMode
-unfolding live_count
-cancelled_emergency_mode = refl
-
-pub fifth_of_six_links : FifthOfSixLinks
-unfolding live_count
-fifth_of_six_links = refl
-
-pub sixth_of_six_links : SixthOfSixLinks
-unfolding live_count
-sixth_of_six_links = refl
+pub two_links : TwoLinks
+two_links = refl
 
 pub new_session : NewSession
-unfolding live_count
 new_session = refl
 
-pub altitude_event_and_malformed : AltitudeEventAndMalformed
-unfolding live_count
-altitude_event_and_malformed = refl
+pub cancel_all_and_request : CancelAllAndRequest
+cancel_all_and_request = refl
+
+pub not_live : NotLive
+not_live = refl
+
+pub latest_sample : LatestSample
+latest_sample = (refl, refl)
+
+pub repeat_and_number_in_force : RepeatAndNumberInForce
+repeat_and_number_in_force = refl
+
+pub repeats_of_each_kind : RepeatsOfEachKind
+repeats_of_each_kind = refl
+
+pub number_of_another : NumberOfAnother
+number_of_another = refl
+
+pub cancel_of_each_kind : CancelOfEachKind
+cancel_of_each_kind = refl
+
+pub replacement : Replacement
+replacement = refl
+
+pub demand_never_in_force : DemandNeverInForce
+demand_never_in_force = refl
 
 pub intent_asked_for : IntentAskedFor
-unfolding live_count
 intent_asked_for = refl
 
 pub cancel_of_undefined : CancelOfUndefined
-unfolding live_count
 cancel_of_undefined = refl
 
 pub two_messages : TwoMessages
-unfolding live_count
 two_messages = refl
 
-pub malformed_live_or_not : MalformedLiveOrNot
-unfolding live_count
-malformed_live_or_not = refl
+pub malformed_payloads : MalformedPayloads
+malformed_payloads = refl
+
+pub period_and_moduli : PeriodAndModuli
+period_and_moduli = refl
+
+pub numbers_in_series : NumbersInSeries
+numbers_in_series = refl
+
+pub groups_of_demand : GroupsOfDemand
+groups_of_demand = refl
+
+pub greatest_tick : GreatestTick
+greatest_tick = refl
+
+pub intervals : Intervals
+intervals = refl
+
+pub lateral_event_once : LateralEventOnce
+lateral_event_once = refl
+
+pub lateral_event_again : LateralEventAgain
+lateral_event_again = refl
+
+pub deviation_to_left : DeviationToLeft
+deviation_to_left = refl
+
+pub climb_too_fast : ClimbTooFast
+climb_too_fast = refl
+
+pub descent_too_fast : DescentTooFast
+descent_too_fast = refl
+
+pub altitude_event_and_malformed : AltitudeEventAndMalformed
+altitude_event_and_malformed = refl
+
+pub above_ceiling : AboveCeiling
+above_ceiling = refl
+
+pub altitude_event_once : AltitudeEventOnce
+altitude_event_once = refl
+
+pub altitude_event_again : AltitudeEventAgain
+altitude_event_again = refl
+
+pub waypoint_changes : WaypointChanges
+waypoint_changes = refl
+
+pub four_events : FourEvents
+four_events = refl
+
+pub new_event_contract : NewEventContract
+new_event_contract = refl
+
+pub emergency_mode : EmergencyMode
+emergency_mode = refl
+
+pub cancelled_emergency_mode : CancelledEmergencyMode
+cancelled_emergency_mode = refl
+
+pub suspended_reports : SuspendedReports
+suspended_reports = refl
+
+pub emergency_contract : EmergencyContract
+emergency_contract = refl
+
+pub cancelled_emergency_contract : CancelledEmergencyContract
+cancelled_emergency_contract = refl
+
+pub default_interval : DefaultInterval
+default_interval = refl
+
+pub request_before_emergency : RequestBeforeEmergency
+request_before_emergency = refl
+
+pub switched_on_again : SwitchedOnAgain
+switched_on_again = refl
+
+pub mode_of_new_session : ModeOfNewSession
+mode_of_new_session = refl

@@ -1,5 +1,5 @@
 -- The acts of a history: what is said on a link, and what happens to the flight.
-use Rattle.std.specs.Prelude.{ℕ, Bool, true, false, ◌==◌, ℤ, max}
+use Rattle.std.specs.Prelude.{ℕ, Bool, true, false, ◌==◌, ℤ, max, Option, Some, None}
 use Rattle.contract_rules.specs.Messages.{Message, CancelAll}
 
 -- The columns of a flight sample that the rules read: cross-track distance in 0.125 NM, vertical rate in 16 ft/min,
@@ -29,9 +29,14 @@ pub data Act : Type 0 where
 
 -- Whether a link hears of an act: its own messages and malformed payloads, and the flight's acts.
 abbrev pub concerns : ℕ → Act → Bool
-concerns link (Said other message) = other == link
-concerns link (Malformed other fault) = other == link
+concerns link (Said other message) = link == other
+concerns link (Malformed other fault) = link == other
 concerns link _ = true
+
+-- Whether an act is a message of this link.
+abbrev pub is_said_on : ℕ → Act → Bool
+is_said_on link (Said other message) = link == other
+is_said_on link _ = false
 
 -- Time after an act: the greater of the time before it and its tick.
 abbrev pub later_of : ℕ → Act → ℕ
@@ -53,7 +58,7 @@ abbrev pub is_cancel_all : Act → Bool
 is_cancel_all (Said link CancelAll) = true
 is_cancel_all _ = false
 
--- The sample after an act: the new one, where the act is a sample.
-abbrev pub sample_or : Sample → Act → Sample
-sample_or latest (Moved before now) = now
-sample_or latest _ = latest
+-- The sample that an act is, where it is one.
+abbrev pub sample_of : Act → Option Sample
+sample_of (Moved before now) = Some now
+sample_of _ = None

@@ -1,10 +1,10 @@
 -- The contracts in force on a link. At most one periodic, one event and one emergency contract is in force on a link;
 -- a demand never is. Requests that replace and cancels that end a contract follow RTCA DO-258A / EUROCAE ED-100A.
-use Rattle.std.specs.Prelude.{ℕ, Bool, false, cond, ◌==◌, ◌||◌, List, Option, Some, None}
+use Rattle.std.specs.Prelude.{ℕ, Bool, false, cond, ◌==◌, ◌||◌, List, Option, Some, None, is_some, option_map}
 use Rattle.contract_rules.specs.Messages.{Message, Cancel, Kind, Periodic, Event, Emergency, number_of, is_request_of, same_message}
 use Rattle.contract_rules.specs.Acts.{Act, Said}
 use Rattle.contract_rules.specs.LookingBack.{standing}
-use Rattle.contract_rules.specs.LiveLinks.{Verdict, Accepted, Noted}
+use Rattle.contract_rules.specs.LiveLinks.{Verdict, Accepted, Noted, session_of}
 
 -- A contract: the request as it was accepted, and the time of its acceptance.
 pub record Contract : Type 0 where
@@ -21,20 +21,37 @@ accepted_request kind _ _ _ = None
 abbrev pub contract_made : Kind → Noted → Option Contract
 contract_made kind noted = accepted_request kind noted.act noted.verdict noted.time
 
--- Whether an act with this verdict is an accepted cancel of contract of this number.
-abbrev pub accepted_cancel : ℕ → Act → Verdict → Bool
-accepted_cancel number (Said link (Cancel other)) Accepted = other == number
-accepted_cancel number _ _ = false
+-- Whether an act is an accepted request of this kind.
+abbrev pub accepts : Kind → Noted → Bool
+accepts kind noted = is_some (contract_made kind noted)
 
--- Whether an act is an accepted cancel of the contract of this number.
-abbrev pub cancels : ℕ → Noted → Bool
-cancels number noted = accepted_cancel number noted.act noted.verdict
+-- The request of a contract, if there is one.
+abbrev pub request_of : Option Contract → Option Message
+request_of contract = option_map (λ held. held.request) contract
 
--- The contract of a kind in force at the end of a session: that of the last accepted request of the kind, unless an
--- accepted cancel of its number came after it.
-abbrev pub in_force : Kind → List Noted → Option Contract
-in_force kind session =
-    standing (contract_made kind) (λ contract noted. cancels (number_of contract.request) noted) session
+-- Whether a contract's request, if there is one, bears the number.
+abbrev pub bears : ℕ → Option Message → Bool
+bears number None = false
+bears number (Some request) = number_of request == number
+
+-- Whether an act with this verdict is an accepted cancel of the contract with this request, if there is one.
+abbrev pub accepted_cancel : Option Message → Act → Verdict → Bool
+accepted_cancel request (Said link (Cancel number)) Accepted = bears number request
+accepted_cancel request _ _ = false
+
+-- Whether an act is an accepted cancel of a contract, if there is one.
+abbrev pub cancels : Option Contract → Noted → Bool
+cancels contract noted = accepted_cancel (request_of contract) noted.act noted.verdict
+
+-- The contract of a kind in force after a session: that of the last accepted request of the kind, unless an accepted
+-- cancel of its number came after it. Without a session none is in force.
+abbrev pub in_force : Kind → Option (List Noted) → Option Contract
+in_force kind None = None
+in_force kind (Some session) = standing (contract_made kind) (λ contract noted. cancels (Some contract) noted) session
+
+-- The request of the contract of a kind in force on a link, after what it heard.
+abbrev pub request_in_force : Kind → ℕ → List Noted → Option Message
+request_in_force kind link heard = request_of (in_force kind (session_of link heard))
 
 -- The requests of the contracts in force.
 pub record Requests : Type 0 where
@@ -42,24 +59,14 @@ pub record Requests : Type 0 where
   pub event : Option Message
   pub emergency : Option Message
 
--- The request of a contract, if there is one.
-abbrev pub request_of : Option Contract → Option Message
-request_of None = None
-request_of (Some contract) = Some contract.request
-
--- The requests of the contracts in force at the end of a session.
-abbrev pub requests_in_force : List Noted → Requests
+-- The requests of the contracts in force after a session.
+abbrev pub requests_in_force : Option (List Noted) → Requests
 requests_in_force session =
     record {
       periodic = request_of (in_force Periodic session);
       event = request_of (in_force Event session);
       emergency = request_of (in_force Emergency session);
     }
-
--- Whether a contract, if there is one, bears the number.
-abbrev pub bears : ℕ → Option Message → Bool
-bears number None = false
-bears number (Some request) = number_of request == number
 
 -- A number is in force where a contract in force bears it.
 abbrev pub is_number_in_force : ℕ → Requests → Bool

@@ -1,9 +1,10 @@
-pub mod Limits
+pub mod Configuration
 pub mod Messages
 pub mod Acts
 pub mod LookingBack
 pub mod LiveLinks
 pub mod InForce
+pub mod Reasons
 pub mod Reports
 pub mod Emergency
 pub mod Verdicts
@@ -11,5 +12,5 @@ pub mod Periodic
 pub mod Events
 pub mod Due
 pub mod Histories
-pub mod Laws
 pub mod Retellings
+pub mod Laws

@@ -1,16 +1,16 @@
--- Which links are live, who is admitted, and the session of a link.
+-- Which links are live, who is admitted, what a link heard, and its session.
 -- Admission of at most five links is this project's profile; connections and their end follow ICAO Doc 10037.
-use Rattle.std.specs.Prelude.{ℕ, ◌+◌, Bool, false, cond, not, ◌&&◌, ◌||◌, nat_lt, List, [], ◌∷◌, Option, Some, None, zero, suc}
-use Rattle.std.specs.List.{filter}
-use Rattle.contract_rules.specs.Limits.{max_live_links, links_limit}
+use Rattle.std.specs.Prelude.{ℕ, ◌-◌, Bool, false, cond, not, ◌&&◌, ◌||◌, ◌==◌, nat_eq, nat_lt, List, [], ◌∷◌, length, filter, Option, Some, None, unwrap_or}
+use Rattle.std.specs.List.{list_any}
+use Rattle.contract_rules.specs.Configuration.{Configuration, max_live_links}
 use Rattle.contract_rules.specs.Messages.{is_request}
-use Rattle.contract_rules.specs.Acts.{Sample, Act, Said, Moved, concerns, later_of, sample_or, is_cancel_all}
-use Rattle.contract_rules.specs.LookingBack.{standing, stands, from_last}
+use Rattle.contract_rules.specs.Acts.{Sample, Act, Said, concerns, is_said_on, is_cancel_all, later_of, sample_of}
+use Rattle.contract_rules.specs.LookingBack.{from_last}
 
--- What is answered to a message or a malformed payload: nothing, since its link is not live; that it can't be read;
--- nothing, since it ends the session; accepted; refused for a reason; or accepted again, as a repeat.
--- The flight's acts get no answer, and are noted as unheard.
+-- The verdict on an act: of the flight, and not answered; unheard, since its link is not live; unreadable; the end of the
+-- session, which is not answered; accepted; refused for a reason; or accepted again, as a repeat.
 pub data Verdict : Type 0 where
+  OfFlight : Verdict
   Unheard : Verdict
   Unreadable : Verdict
   Ended : Verdict
@@ -25,43 +25,41 @@ pub record Noted : Type 0 where
   pub verdict : Verdict
   pub time : ℕ
 
--- A link's story: of a past, the acts that the link hears of.
-abbrev pub story : ℕ → List Noted → List Noted
-story link past = filter (λ noted. concerns link noted.act) past
+-- ---- live links
 
--- The admission that an act is, for its link.
-abbrev pub admission : Noted → Option Noted
-admission noted = cond noted.admits (Some noted) None
+-- These links without this one.
+abbrev pub without : ℕ → List ℕ → List ℕ
+without link links = filter (λ other. not (link == other)) links
 
--- A story has a live link at its end where an act admitted the link, and no cancel-all came after it.
-abbrev pub is_connected : List Noted → Bool
-is_connected told = stands (standing admission (λ _ noted. is_cancel_all noted.act) told)
+-- The live links after an act, the last admitted first: an act that admits its link puts it in front, and a cancel-all
+-- takes its link out.
+abbrev pub links_after : Act → Bool → List ℕ → List ℕ
+links_after (Said link message) admits live =
+    cond admits (link ∷ live) (cond (is_cancel_all (Said link message)) (without link live) live)
+links_after _ admits live = live
 
--- Whether a link is live at an act: it is live before it, or the act admits it.
-abbrev pub is_live_with_admission : Bool → List Noted → Bool
-is_live_with_admission admitting told = admitting || is_connected told
+-- The links that are live after a past.
+abbrev pub live_links : List Noted → List ℕ
+live_links [] = []
+live_links (noted ∷ past) = links_after noted.act noted.admits (live_links past)
 
 -- Whether a link is live after a past.
 abbrev pub is_live : ℕ → List Noted → Bool
-is_live link past = is_connected (story link past)
+is_live link past = list_any (nat_eq link) (live_links past)
 
--- How many of the links below a number pass the test.
-abbrev pub count_below : ℕ → (ℕ → Bool) → ℕ
-count_below zero test = 0
-count_below (suc link) test = count_below link test + cond (test link) 1 0
+-- Whether one more link may join the live ones: where no connection is kept, fewer than five are live; where one is kept
+-- for this link, always; where it is kept for another, fewer than four others are live.
+abbrev pub has_room : Option ℕ → ℕ → List ℕ → Bool
+has_room None link live = nat_lt (length live) max_live_links
+has_room (Some kept) link live = link == kept || nat_lt (length (without kept live)) (max_live_links - 1)
 
--- How many links are live.
-unfoldable pub live_count : List Noted → ℕ
-live_count past = count_below links_limit (λ link. is_live link past)
+-- An act admits its link where it is a request, the link is not live, and there is room for it.
+abbrev pub admits : Configuration → List Noted → Act → Bool
+admits configuration past (Said link message) =
+    is_request message && not (is_live link past) && has_room configuration.kept link (live_links past)
+admits configuration past _ = false
 
--- Whether one more link may be admitted.
-abbrev pub has_room : List Noted → Bool
-has_room past = nat_lt (live_count past) max_live_links
-
--- An act admits its link where it is a request, the link is not live, and fewer than five links are.
-abbrev pub admits : List Noted → Act → Bool
-admits past (Said link message) = is_request message && not (is_live link past) && has_room past
-admits past _ = false
+-- ---- time and samples
 
 -- Time: the greatest tick so far, and 0 at first.
 abbrev pub time_after : List Noted → ℕ
@@ -71,16 +69,22 @@ time_after (noted ∷ past) = later_of (time_after past) noted.act
 -- The latest sample: the last that was taken, or the one that the flight began with.
 abbrev pub latest_sample : Sample → List Noted → Sample
 latest_sample first [] = first
-latest_sample first (noted ∷ past) = sample_or (latest_sample first past) noted.act
+latest_sample first (noted ∷ past) = unwrap_or (sample_of noted.act) (latest_sample first past)
 
--- The act that a new sample makes: it bears the latest sample before it.
-abbrev pub sample_act : Sample → List Noted → Sample → Act
-sample_act first past now = Moved (latest_sample first past) now
+-- ---- the session of a link
 
--- The session of a link: its story from its last admission on, where the link is live; else nothing.
-abbrev pub session_of : List Noted → List Noted
-session_of told = cond (is_connected told) (from_last (λ noted _. noted.admits) told) []
+-- What a link heard of a past: its own acts and the flight's. The definitions on one link look back over this list.
+abbrev pub heard_on : ℕ → List Noted → List Noted
+heard_on link past = filter (λ noted. concerns link noted.act) past
 
--- The session that an act finds: nothing yet, where the act admits its link.
-abbrev pub session_before : Bool → List Noted → List Noted
-session_before admitting told = cond admitting [] (session_of told)
+-- Whether a noted act admits this link.
+abbrev pub admits_link : ℕ → Noted → Bool
+admits_link link noted = noted.admits && is_said_on link noted.act
+
+-- The session of a link: what it heard from its last admission on. A link that is not live has none.
+abbrev pub session_of : ℕ → List Noted → Option (List Noted)
+session_of link heard = cond (is_live link heard) (Some (from_last (λ noted _. admits_link link noted) heard)) None
+
+-- The session of a link at an act: where the act admits the link, one in which nothing was heard yet; else that before it.
+abbrev pub session_at : Bool → ℕ → List Noted → Option (List Noted)
+session_at admitted link heard = cond admitted (Some []) (session_of link heard)

@@ -1,6 +1,7 @@
 -- The words to look back with. A past is a list of acts, the newest first; what came before an act is the rest of the
 -- list behind it. A test of an act sees the acts before it too.
-use Rattle.std.specs.Prelude.{ℕ, ◌+◌, Bool, true, false, cond, not, ◌&&◌, List, [], ◌∷◌, Option, Some, None}
+use Rattle.std.specs.Prelude.{ℕ, ◌+◌, Bool, true, cond, not, ◌&&◌, List, [], ◌∷◌, Option, Some, None}
+use Rattle.std.specs.Option.{option_or}
 
 -- A test of an act, over the acts before it.
 abbrev pub Test : Type 0 → Type 0
@@ -37,17 +38,7 @@ abbrev pub unless : {B : Type 0} → (B → Bool) → Option B → Option B
 unless ended None = None
 unless ended (Some b) = cond (ended b) None (Some b)
 
--- What is begun now, or else what stood before.
-abbrev pub or_else : {B : Type 0} → Option B → Option B → Option B
-or_else (Some b) before = Some b
-or_else None before = before
-
 -- What the last act that begins something began, unless an act that ends it came after.
 abbrev pub standing : {A B : Type 0} → (A → Option B) → (B → A → Bool) → List A → Option B
 standing begins ends [] = None
-standing begins ends (act ∷ past) = or_else (begins act) (unless (λ b. ends b act) (standing begins ends past))
-
--- Whether something stands.
-abbrev pub stands : {B : Type 0} → Option B → Bool
-stands None = false
-stands (Some b) = true
+standing begins ends (act ∷ past) = option_or (begins act) (unless (λ b. ends b act) (standing begins ends past))

@@ -1,7 +1,10 @@
 -- Uplink messages as the contract rules see them: plain data, with an equality that computes.
 -- The kinds of messages and their groups follow RTCA DO-258A / EUROCAE ED-100A.
-use Rattle.std.specs.Prelude.{if◌then◌else◌, ℕ, ◌+◌, ◌*◌, ◌/◌, ◌%◌, Bool, true, false, not, ◌&&◌, ◌==◌, List, [], ◌∷◌, ℤ, Option, Some, None}
+use Rattle.std.specs.Prelude.{if◌then◌else◌, ℕ, ◌+◌, ◌*◌, ◌/◌, ◌%◌, Bool, true, false, not, ◌&&◌, ◌==◌, nat_eq, List, ℤ, Option, Some, None, is_some}
+use Rattle.std.specs.Bool.{beq}
+use Rattle.std.specs.Option.{option_eq}
 use Rattle.std.specs.Ordering.{int_eq}
+use Rattle.std.specs.Cmp.Lexicographic.{pointwise}
 
 -- What an aircraft intent group asks for: its modulus, and the projection time in minutes.
 pub record Intent : Type 0 where
@@ -22,10 +25,9 @@ pub record Reporting : Type 0 where
   pub moduli : List (Option ℕ)
   pub intent : Option Intent
 
--- What an event request says: the contract's number, the lateral deviation threshold in units of 0.125 NM, the
--- vertical rate threshold in units of 64 ft/min, the altitude range, and whether a change of waypoint is an event.
-pub record Watching : Type 0 where
-  pub number : ℕ
+-- The limits of an event contract: the lateral deviation threshold in units of 0.125 NM, the vertical rate threshold
+-- in units of 64 ft/min, the altitude range, and whether a change of waypoint is an event.
+pub record EventLimits : Type 0 where
   pub lateral : Option ℕ
   pub vertical_rate : Option ℤ
   pub range : Option AltitudeRange
@@ -38,7 +40,7 @@ pub data Message : Type 0 where
   Cancel : ℕ → Message
   CancelEmergency : ℕ → Message
   PeriodicRequest : Reporting → Message
-  EventRequest : Watching → Message
+  EventRequest : ℕ → EventLimits → Message
   EmergencyRequest : Reporting → Message
 
 -- The kinds of requests. A demand is a periodic request that asks for a single report.
@@ -54,7 +56,7 @@ number_of CancelAll = 0
 number_of (Cancel number) = number
 number_of (CancelEmergency number) = number
 number_of (PeriodicRequest asked) = asked.number
-number_of (EventRequest asked) = asked.number
+number_of (EventRequest number limits) = number
 number_of (EmergencyRequest asked) = asked.number
 
 -- The seconds of a scale code: 0 for never, then 1, 8 and 64.
@@ -71,60 +73,40 @@ abbrev pub seconds_of : Option ℕ → ℕ
 seconds_of None = 0
 seconds_of (Some octet) = interval_seconds octet
 
--- A periodic request is a demand where its interval is absent or 0 s.
-abbrev pub is_demand : Reporting → Bool
-is_demand asked = seconds_of asked.interval == 0
+-- The interval that a request for reports asks for, in seconds; 0 where it asks for none.
+abbrev pub interval_of : Message → ℕ
+interval_of (PeriodicRequest asked) = seconds_of asked.interval
+interval_of (EmergencyRequest asked) = seconds_of asked.interval
+interval_of _ = 0
+
+-- A periodic request with this interval is a demand where the interval is absent or 0 s.
+abbrev pub is_demand : Option ℕ → Bool
+is_demand interval = seconds_of interval == 0
 
 -- Whether the message is a request of this kind.
 abbrev pub is_request_of : Kind → Message → Bool
-is_request_of Demand (PeriodicRequest asked) = is_demand asked
-is_request_of Periodic (PeriodicRequest asked) = not (is_demand asked)
-is_request_of Event (EventRequest asked) = true
+is_request_of Demand (PeriodicRequest asked) = is_demand asked.interval
+is_request_of Periodic (PeriodicRequest asked) = not (is_demand asked.interval)
+is_request_of Event (EventRequest number limits) = true
 is_request_of Emergency (EmergencyRequest asked) = true
 is_request_of _ _ = false
 
 -- Whether the message is a request, of whatever kind.
 abbrev pub is_request : Message → Bool
 is_request (PeriodicRequest asked) = true
-is_request (EventRequest asked) = true
+is_request (EventRequest number limits) = true
 is_request (EmergencyRequest asked) = true
 is_request _ = false
 
--- Whether an intent group is there.
-abbrev pub asks_for : Option Intent → Bool
-asks_for None = false
-asks_for (Some intent) = true
-
 -- Whether the message asks for aircraft intent.
 abbrev pub asks_for_intent : Message → Bool
-asks_for_intent (PeriodicRequest asked) = asks_for asked.intent
-asks_for_intent (EmergencyRequest asked) = asks_for asked.intent
+asks_for_intent (PeriodicRequest asked) = is_some asked.intent
+asks_for_intent (EmergencyRequest asked) = is_some asked.intent
 asks_for_intent _ = false
-
--- Two values that may be absent are the same where both are absent, or both are there and the same.
-abbrev pub same_option : {A : Type 0} → (A → A → Bool) → Option A → Option A → Bool
-same_option same None None = true
-same_option same (Some x) (Some y) = same x y
-same_option same _ _ = false
-
--- Two lists are the same where they have the same elements in the same order.
-abbrev pub same_list : {A : Type 0} → (A → A → Bool) → List A → List A → Bool
-same_list same [] [] = true
-same_list same (x ∷ xs) (y ∷ ys) = same x y && same_list same xs ys
-same_list same _ _ = false
-
--- Whether two numbers are the same.
-abbrev pub same_number : ℕ → ℕ → Bool
-same_number m n = m == n
-
--- Whether two flags are the same.
-abbrev pub same_flag : Bool → Bool → Bool
-same_flag true b = b
-same_flag false b = not b
 
 -- Whether two intent groups have the same modulus and projection time.
 abbrev pub same_intent : Intent → Intent → Bool
-same_intent one other = same_number one.modulus other.modulus && same_number one.minutes other.minutes
+same_intent one other = one.modulus == other.modulus && one.minutes == other.minutes
 
 -- Whether two altitude ranges have the same ceiling and floor.
 abbrev pub same_range : AltitudeRange → AltitudeRange → Bool
@@ -133,27 +115,26 @@ same_range one other = int_eq one.ceiling other.ceiling && int_eq one.floor othe
 -- Whether two requests for reports agree in number, interval octet, moduli and intent.
 abbrev pub same_reporting : Reporting → Reporting → Bool
 same_reporting one other =
-    same_number one.number other.number
-    && same_option same_number one.interval other.interval
-    && same_list (same_option same_number) one.moduli other.moduli
-    && same_option same_intent one.intent other.intent
+    one.number == other.number
+    && option_eq nat_eq one.interval other.interval
+    && pointwise (option_eq nat_eq) one.moduli other.moduli
+    && option_eq same_intent one.intent other.intent
 
--- Whether two event requests agree in number and in each limit.
-abbrev pub same_watching : Watching → Watching → Bool
-same_watching one other =
-    same_number one.number other.number
-    && same_option same_number one.lateral other.lateral
-    && same_option int_eq one.vertical_rate other.vertical_rate
-    && same_option same_range one.range other.range
-    && same_flag one.waypoint other.waypoint
+-- Whether two event contracts agree in each limit.
+abbrev pub same_limits : EventLimits → EventLimits → Bool
+same_limits one other =
+    option_eq nat_eq one.lateral other.lateral
+    && option_eq int_eq one.vertical_rate other.vertical_rate
+    && option_eq same_range one.range other.range
+    && beq one.waypoint other.waypoint
 
 -- Two messages are the same where they are of one kind and agree in number and content. An interval is compared by
 -- its octet, an absent group differs from one with modulus 0, and an absent interval from one of 0 s.
 abbrev pub same_message : Message → Message → Bool
 same_message CancelAll CancelAll = true
-same_message (Cancel m) (Cancel n) = same_number m n
-same_message (CancelEmergency m) (CancelEmergency n) = same_number m n
+same_message (Cancel m) (Cancel n) = m == n
+same_message (CancelEmergency m) (CancelEmergency n) = m == n
 same_message (PeriodicRequest one) (PeriodicRequest other) = same_reporting one other
-same_message (EventRequest one) (EventRequest other) = same_watching one other
+same_message (EventRequest m one) (EventRequest n other) = m == n && same_limits one other
 same_message (EmergencyRequest one) (EmergencyRequest other) = same_reporting one other
 same_message _ _ = false

@@ -14,25 +14,77 @@
 //! a link's state: each says how a definition after one more act follows from those before it.
 #![tactic(auto)]
 
-ghost use Rattle.contract_rules.specs.Histories.{PeriodAndModuli, RepeatAndNumberInForce, LateralEventOnce, EmergencyMode, CancelledEmergencyMode, FifthOfSixLinks, SixthOfSixLinks, NewSession, AltitudeEventAndMalformed, IntentAskedFor, CancelOfUndefined, TwoMessages, MalformedLiveOrNot};
-ghost use Rattle.contract_rules.specs.Laws.{SameMessageIsEquality, MalformedChangesNoContract, MalformedChangesNothing, UnheardChangesNothing, AtMostFiveLive, LinksAreIndependent, FiveLinksAreIndependent, CountedReportsAreDue};
-ghost use Rattle.contract_rules.specs.Retellings.{LiveSinceAdmission, InForceSinceAcceptance, InForceSplits, PeriodicReportsSinceAcceptance, SpentSinceAcceptance, AnchorIsLatest};
+ghost use Rattle.contract_rules.specs.Histories.Links.{SixLinks, SixHighLinks, BesideKeptLink, KeptLinkGone, TwoLinks, NewSession, CancelAllAndRequest, NotLive, LatestSample};
+ghost use Rattle.contract_rules.specs.Histories.Contracts.{RepeatAndNumberInForce, RepeatsOfEachKind, NumberOfAnother, CancelOfEachKind, Replacement, DemandNeverInForce, IntentAskedFor, CancelOfUndefined, TwoMessages, MalformedPayloads};
+ghost use Rattle.contract_rules.specs.Histories.Reports.{PeriodAndModuli, NumbersInSeries, GroupsOfDemand, GreatestTick, Intervals};
+ghost use Rattle.contract_rules.specs.Histories.Events.{LateralEventOnce, LateralEventAgain, DeviationToLeft, ClimbTooFast, DescentTooFast, AltitudeEventAndMalformed, AboveCeiling, AltitudeEventOnce, AltitudeEventAgain, WaypointChanges, FourEvents, NewEventContract};
+ghost use Rattle.contract_rules.specs.Histories.Emergency.{EmergencyMode, CancelledEmergencyMode, SuspendedReports, EmergencyContract, CancelledEmergencyContract, DefaultInterval, RequestBeforeEmergency, SwitchedOnAgain, ModeOfNewSession};
+ghost use Rattle.contract_rules.specs.Laws.{SameMessageIsEquality, MalformedChangesNoContract, MalformedChangesNothing, UnheardChangesNothing, AtMostFiveLive, LinksAreIndependent, FiveLinksAreIndependent};
+ghost use Rattle.contract_rules.specs.Retellings.{LiveSinceAdmission, InForceSinceAcceptance, InForceSplits, PeriodicReportsSinceAcceptance, SamplesSinceAcceptance, EmergencyOffAtCrewOff, AnchorIsLatest};
 
-/// The worked histories: what is due on a link at each entry, by computation.
-pub fn worked_histories()
-    ensures period_and_moduli { PeriodAndModuli }
-    ensures repeat_and_number_in_force { RepeatAndNumberInForce }
-    ensures lateral_event_once { LateralEventOnce }
-    ensures emergency_mode { EmergencyMode }
-    ensures cancelled_emergency_mode { CancelledEmergencyMode }
-    ensures fifth_of_six_links { FifthOfSixLinks }
-    ensures sixth_of_six_links { SixthOfSixLinks }
+/// The worked histories of links: admission, sessions, acts that are not heard, by computation.
+pub fn histories_of_links()
+    ensures six_links { SixLinks }
+    ensures six_high_links { SixHighLinks }
+    ensures beside_kept_link { BesideKeptLink }
+    ensures kept_link_gone { KeptLinkGone }
+    ensures two_links { TwoLinks }
     ensures new_session { NewSession }
-    ensures altitude_event_and_malformed { AltitudeEventAndMalformed }
+    ensures cancel_all_and_request { CancelAllAndRequest }
+    ensures not_live { NotLive }
+    ensures latest_sample { LatestSample }
+{}
+
+/// The worked histories of contracts: verdicts, repeats, replacement, cancels and answers, by computation.
+pub fn histories_of_contracts()
+    ensures repeat_and_number_in_force { RepeatAndNumberInForce }
+    ensures repeats_of_each_kind { RepeatsOfEachKind }
+    ensures number_of_another { NumberOfAnother }
+    ensures cancel_of_each_kind { CancelOfEachKind }
+    ensures replacement { Replacement }
+    ensures demand_never_in_force { DemandNeverInForce }
     ensures intent_asked_for { IntentAskedFor }
     ensures cancel_of_undefined { CancelOfUndefined }
     ensures two_messages { TwoMessages }
-    ensures malformed_live_or_not { MalformedLiveOrNot }
+    ensures malformed_payloads { MalformedPayloads }
+{}
+
+/// The worked histories of basic reports: grids, numbers and groups, by computation.
+pub fn histories_of_reports()
+    ensures period_and_moduli { PeriodAndModuli }
+    ensures numbers_in_series { NumbersInSeries }
+    ensures groups_of_demand { GroupsOfDemand }
+    ensures greatest_tick { GreatestTick }
+    ensures intervals { Intervals }
+{}
+
+/// The worked histories of events in both profiles, by computation.
+pub fn histories_of_events()
+    ensures lateral_event_once { LateralEventOnce }
+    ensures lateral_event_again { LateralEventAgain }
+    ensures deviation_to_left { DeviationToLeft }
+    ensures climb_too_fast { ClimbTooFast }
+    ensures descent_too_fast { DescentTooFast }
+    ensures altitude_event_and_malformed { AltitudeEventAndMalformed }
+    ensures above_ceiling { AboveCeiling }
+    ensures altitude_event_once { AltitudeEventOnce }
+    ensures altitude_event_again { AltitudeEventAgain }
+    ensures waypoint_changes { WaypointChanges }
+    ensures four_events { FourEvents }
+    ensures new_event_contract { NewEventContract }
+{}
+
+/// The worked histories of emergency mode, by computation.
+pub fn histories_of_emergency()
+    ensures emergency_mode { EmergencyMode }
+    ensures cancelled_emergency_mode { CancelledEmergencyMode }
+    ensures suspended_reports { SuspendedReports }
+    ensures emergency_contract { EmergencyContract }
+    ensures cancelled_emergency_contract { CancelledEmergencyContract }
+    ensures default_interval { DefaultInterval }
+    ensures request_before_emergency { RequestBeforeEmergency }
+    ensures switched_on_again { SwitchedOnAgain }
+    ensures mode_of_new_session { ModeOfNewSession }
 {}
 
 /// The equality of messages that the rules compute with is equality: a repeat is the same message.
@@ -41,24 +93,27 @@ pub fn repeats_are_equal_messages()
 {}
 
 /// A malformed payload changes no contract: after it the live links and the contracts in force are those before it, and so
-/// are emergency mode and its anchor, the numbers of the next reports, the spent limits and time.
+/// are emergency mode and its anchor, the numbers of the next reports, the samples since acceptance, and time, on each link.
 pub fn malformed_changes_no_contract()
     ensures contracts { MalformedChangesNoContract }
     ensures all_else { MalformedChangesNothing }
 {}
 
-/// An act of a link that is neither live nor admitted by it is not answered and changes nothing.
+/// An act of a link that is neither live nor admitted by it, a message or a malformed payload, is not answered and changes
+/// nothing on any link.
 pub fn unheard_changes_nothing()
     ensures { UnheardChangesNothing }
 {}
 
-/// At most five links are live after any acts.
+/// At most five links are live after any acts, of links of any number, each once in the list of them, with and without a
+/// kept connection.
 pub fn at_most_five_live()
     ensures { AtMostFiveLive }
 {}
 
-/// Links are independent but for admissions: what is due on a link is determined by its own acts, the flight's acts and
-/// which requests admit it; with at most five links by its own and the flight's acts alone.
+/// Links are independent but for admissions: what is due on a link is determined by the profile, its own acts, the flight's
+/// acts and which requests admit it, whatever connection is kept; with at most five links by the profile and its own and the
+/// flight's acts alone.
 pub fn links_are_independent()
     ensures but_for_admissions { LinksAreIndependent }
     ensures of_at_most_five { FiveLinksAreIndependent }
@@ -70,29 +125,27 @@ pub fn live_since_admission()
 {}
 
 /// A contract is in force exactly where a request of its kind made it in the session, no later one replaced it, and no
-/// accepted cancel of its number came after. The story of its link splits there.
+/// accepted cancel of its number came after. What its link heard splits there.
 pub fn in_force_since_acceptance()
     ensures exactly { InForceSinceAcceptance }
     ensures splits { InForceSplits }
 {}
 
-/// A periodic report's number in its series is that of the reports due by its contract before it, and a limit of an event
-/// contract is spent where a sample after acceptance exceeded it.
+/// A periodic report's number in its series is that of the reports due by its contract before it, and the samples that decide
+/// whether a limit of an event contract is spent are those after its acceptance.
 pub fn series_since_acceptance()
     ensures reports { PeriodicReportsSinceAcceptance }
-    ensures limits { SpentSinceAcceptance }
+    ensures samples { SamplesSinceAcceptance }
 {}
 
-/// The anchor of a live link's emergency reports is the latest act that is a crew act, the admission, the making of the
-/// emergency contract in force, or an accepted cancel of an emergency contract; and an emergency report's number is that
-/// of the reports due at the anchor or after it.
+/// The anchor of a live link's emergency reports is the latest of the four acts that the rule names: the last crew act, the
+/// admission, the acceptance of the emergency contract in force, and an accepted cancel of an emergency contract in the session;
+/// and an emergency report's number is that of the reports due at the anchor or after it.
 pub fn anchor_is_latest()
     ensures { AnchorIsLatest }
 {}
 
-/// The reports that are counted in a series are those that are due: an emergency report is among the items of an act
-/// exactly where the act counts as giving one, and a basic report exactly where it counts as giving one of a periodic
-/// contract or is an accepted demand.
-pub fn counted_reports_are_due()
-    ensures { CountedReportsAreDue }
+/// Emergency-off falls due on a link exactly at a crew act off, where the link is in emergency mode.
+pub fn emergency_off_at_crew_off()
+    ensures { EmergencyOffAtCrewOff }
 {}

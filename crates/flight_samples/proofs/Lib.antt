@@ -1,5 +1,6 @@
 pub mod DecimalLemmas
 pub mod RowLemmas
+pub mod SplitLemmas
 pub mod ColumnLemmas
 pub mod Readings
 pub mod DecimalTexts

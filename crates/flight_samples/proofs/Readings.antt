@@ -32,14 +32,14 @@ first_bad_same fields k m v w one other = elim (cases_order k m) [
   | inr (inr above) ↦ let read = one.before m above in absurd (no_fault fields m read.0 w read.1 other.bad)
 ]
 
--- fields that are a sample have no fault
+-- Fields that are a sample have no fault.
 values_no_fault : (fields : List (List ℕ)) (values : List ℤ) (e : SampleRefusal) → AreSampleValues fields values → IsSampleFault fields e → ⊥
 values_no_fault fields values (Count found) are (is, other) = other (is ∙ are.field_count)
 values_no_fault fields values (Column index why) are (count, from, first) =
     no_fault fields (index - 1) _ why (are.each (index - 1) first.inside) first.bad
 values_no_fault fields values NoMemory are fault = fault
 
--- fields have one fault
+-- Fields have one fault.
 fault_same : (fields : List (List ℕ)) (e f : SampleRefusal) → IsSampleFault fields e → IsSampleFault fields f → e ≡ f
 fault_same fields (Count m) (Count n) one other = ap Count (one.0 ∙ sym other.0)
 fault_same fields (Count m) (Column index why) one other = absurd (one.1 (one.0 ∙ other.0))
@@ -51,7 +51,7 @@ fault_same fields (Column i v) (Column j w) one other =
 fault_same fields NoMemory f one other = absurd one
 fault_same fields e NoMemory one other = absurd other
 
--- what a reading of a row that gives a sample or tells a fault answers where the row's fields are a sample, or have a fault
+-- What a reading of a row that gives a sample or tells a fault answers where the row's fields are a sample, or have a fault.
 pub reads : (fields columns : List (List ℕ)) (r : Result Sample SampleRefusal) → fields ≡ columns
     → IfOk r (λ s. AreSampleValues fields (values_of s)) → IfErr r (IsSampleFault fields)
     → (values : List ℤ) → AreSampleValues columns values → MatchResult r (λ s. values_of s ≡ values) (λ e. e ≡ NoMemory)

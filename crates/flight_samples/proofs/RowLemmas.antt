@@ -1,5 +1,5 @@
 -- Lemmas on rows: how the crate `csv` splits a text without quotes and line ends.
-use Rattle.std.proofs.Common.{◌≡◌, ◌==◌, ◌<◌, ℕ, zero, suc, Bool, true, false, List, [], ◌∷◌, ◌++◌, Option, Some, None, Result, Ok, Err, IfOk, MatchOption, option_map, unwrap_or, get_or, refl, ap, ◌∙◌, arith, append_assoc, length, Bor, eqb, inl, inr}
+use Rattle.std.proofs.Common.{◌≡◌, ◌==◌, ◌<◌, ℕ, zero, suc, Bool, true, false, List, [], ◌∷◌, ◌++◌, Option, Some, None, MatchOption, option_map, unwrap_or, get_or, refl, ap, ◌∙◌, arith, append_assoc, length, Bor, eqb, inl, inr}
 use Rattle.std.specs.List.{All, onto_first}
 use Rattle.std.proofs.lemmas.List.Elements.{All-head, All-tail}
 use Rattle.std.proofs.lemmas.List.{append-nil}
@@ -13,14 +13,14 @@ use Rattle.csv.specs.declared.parser.State.TheVariants as st
 use Rattle.csv.specs.declared.parser.Action.TheVariants as act
 use Rattle.flight_samples.specs.SampleText.{IsPlain, columns_of}
 
--- what a row's call `get` gives, by place
+-- What a row's call `get` gives, by place.
 pub field_is : (fields : List (List ℕ)) (place : ℕ) → unwrap_or (field_at fields place) [] ≡ get_or fields place []
 unfolding field_at
 field_is [] place = refl
 field_is (f ∷ fs) zero = refl
 field_is (f ∷ fs) (suc place) = field_is fs place
 
--- the parts, with a beginning of the first one
+-- The parts, with a beginning of the first one.
 abbrev with_front : List ℕ → List (List ℕ) → List (List ℕ)
 with_front front [] = front ∷ []
 with_front front (part ∷ parts) = (front ++ part) ∷ parts
@@ -33,7 +33,7 @@ front_more : (front : List ℕ) (byte : ℕ) (parts : List (List ℕ)) → with_
 front_more front byte [] = refl
 front_more front byte (part ∷ parts) = ap (λ x. x ∷ parts) (append_assoc front (byte ∷ []) part)
 
--- the states in which a text without quotes is read
+-- The states in which a text without quotes is read.
 abbrev is_plain_state : State → Bool
 is_plain_state st.StartRecord = true
 is_plain_state st.StartField = true
@@ -44,7 +44,7 @@ is_plain_state st.InEscape = false
 is_plain_state st.InComment = false
 is_plain_state st.AfterCr = false
 
--- there a plain byte is read as inside a field
+-- There a plain byte is read as inside a field.
 step_plain : (s : State) (byte : ℕ) → is_plain_state s ≡ true → IsPlain byte → step default_config s byte ≡ in_field default_config byte
 step_plain st.StartRecord byte at plain = rw (ne_eqb _ _ plain.2, ne_eqb _ _ plain.3, ne_eqb _ _ plain.1) refl
 step_plain st.StartField byte at plain = rw (ne_eqb _ _ plain.1) refl
@@ -84,11 +84,11 @@ other_parts : (fields : List (List ℕ)) (field : List ℕ) (byte : ℕ) (text :
     → fields ++ with_front (field ++ byte ∷ []) (columns_of text) ≡ fields ++ with_front field (columns_of (byte ∷ text))
 other_parts fields field byte text other = rw other (ap (λ parts. fields ++ parts) (front_more field byte (columns_of text)))
 
--- the record that a text without quotes and line ends is read as
+-- The record that a text without quotes and line ends is read as.
 abbrev read_as : List (List ℕ) → List ℕ → List ℕ → Option Read
 read_as fields field text = Some (fields ++ with_front field (columns_of text), st.StartRecord, [])
 
--- from a state on in which the text may end, if it is read so
+-- From a state on in which the text may end, if it is read so.
 abbrev ReadsAs : List ℕ → Type 0
 ReadsAs text = (s : State) (fields : List (List ℕ)) (field : List ℕ) → is_plain_state s ≡ true → ends_at_end s ≡ true
     → next_record default_config s fields field text ≡ read_as fields field text
@@ -122,7 +122,7 @@ no_bom (a ∷ b ∷ c ∷ rest) plain =
     let first : IsPlain a = All-head IsPlain a (b ∷ c ∷ rest) plain in
     rw (ne_eqb a 0xEF (λ e. absurd (omega (arith, first.0)))) refl
 
--- the fields of a text's record, which an empty text has none of
+-- The fields of a text's record, which an empty text has none of.
 abbrev first_fields : List ℕ → Option (List (List ℕ))
 first_fields [] = None
 first_fields (byte ∷ text) = Some (columns_of (byte ∷ text))
@@ -138,7 +138,7 @@ first_fields_are (byte ∷ text) plain =
     ap (option_map (λ p. p.0)) (next_cons st.StartRecord [] [] byte text refl (All-head IsPlain byte text plain) (next_plain text (All-tail IsPlain byte text plain)))
     ∙ ap Some (front_nil (columns_of (byte ∷ text)) (omega (arith, length-slice_split (λ b. b == 44) (byte ∷ text))))
 
--- the first record of a plain text has its columns
+-- The first record of a plain text has its columns.
 pub record_has_columns : (text : List ℕ) (o : Option Row) → All IsPlain text
     → option_map fields_of o ≡ option_map (λ p. p.0) (next_record default_config st.StartRecord [] [] (strip_bom text))
     → MatchOption o (text ≡ []) (λ row. fields_of row ≡ columns_of text)
@@ -152,14 +152,7 @@ record_has_columns text o plain read = has_columns text o (read
     has_columns [] (Some row) e = absurd cc
     has_columns (byte ∷ text) (Some row) e = cc
 
--- the same of a read that may fail
-pub result_has_columns : {E : Type 0} (text : List ℕ) (r : Result (Option Row) E) → All IsPlain text
-    → IfOk r (λ o. option_map fields_of o ≡ option_map (λ p. p.0) (next_record default_config st.StartRecord [] [] (strip_bom text)))
-    → IfOk r (λ o. MatchOption o (text ≡ []) (λ row. fields_of row ≡ columns_of text))
-result_has_columns text (Ok o) plain read = record_has_columns text o plain read
-result_has_columns text (Err e) plain read = tt
-
--- the bytes behind the reference that `get` and then `unwrap_or` give
+-- The bytes behind the reference that `get` and then `unwrap_or` give.
 pub field_read : (o : Option (Bor (List ℕ))) (empty r : Bor (List ℕ)) (fields : List (List ℕ)) (place : ℕ)
     → option_map (λ s. s.now) o ≡ field_at fields place → r ≡ unwrap_or o empty → empty.now ≡ [] → r.now ≡ get_or fields place []
 field_read o empty r fields place read is none =

@@ -5,11 +5,11 @@ use Rattle.flight_samples.specs.Columns.{Range, IsIn, accuracies, altitudes, ang
 use Rattle.flight_samples.specs.Samples.{values_of}
 use Rattle.flight_samples.specs.declared.sample.Sample.{Sample}
 
--- the value at the place is in the range
+-- The value at the place is in the range.
 abbrev IsInAt : List ℤ → ℕ → Range → Type 0
 IsInAt vs place range = IsIn range (get_or vs place (pos 0))
 
--- the values are in the ranges of their columns
+-- The values are in the ranges of their columns.
 abbrev AreInRange : List ℤ → Type 0
 AreInRange vs =
     IsInAt vs 0 latitudes
@@ -39,7 +39,7 @@ AreInRange vs =
     × IsInAt vs 24 temperatures
     × IsInAt vs 25 cross_tracks
 
--- a sample of its values
+-- A sample of its values.
 make_sample : (vs : List ℤ) → AreInRange vs → Sample
 make_sample vs within = record {
   lat = get_or vs 0 (pos 0);
@@ -96,7 +96,7 @@ make_sample vs within = record {
   xtk_range = within.25;
 }
 
--- what is known of the values of a sample
+-- What is known of the values of a sample.
 ranges_of : (s : Sample) → AreInRange (values_of s)
 ranges_of s = (
   s.lat_range,
@@ -127,7 +127,7 @@ ranges_of s = (
   s.xtk_range,
 )
 
--- samples with the same values are equal
+-- Samples with the same values are equal.
 pub same_sample : (a b : Sample) → values_of a ≡ values_of b → a ≡ b
 unfolding make_sample ranges_of
 same_sample a b same =

@@ -3,85 +3,85 @@
 -- Which columns there are, and in which order, is this project's profile.
 use Rattle.std.specs.Prelude.{ℕ, ℤ, pos, negsuc, List, [], ◌∷◌, ◌≤ℤ◌, codes}
 
--- the least and the greatest value of a quantity
+-- The least and the greatest value of a quantity.
 pub record Range : Type 0 where
   pub low : ℤ
   pub high : ℤ
 
--- the range from low to high
+-- The range from low to high.
 abbrev pub range : ℤ → ℤ → Range
 range low high = record { low = low; high = high }
 
--- z is in the range
+-- z is in the range.
 abbrev pub IsIn : Range → ℤ → Type 0
 IsIn r z = (r.low ≤ℤ z) × (z ≤ℤ r.high)
 
--- a latitude in 180/2^20 degree, north positive: from 90 degrees south to 90 degrees north
+-- A latitude in 180/2^20 degree, north positive: from 90 degrees south to 90 degrees north.
 abbrev pub latitudes : Range
 latitudes = range (negsuc 524287) (pos 524288)
 
--- a longitude in 180/2^20 degree, east positive: from 180 degrees west to just below 180 degrees east
+-- A longitude in 180/2^20 degree, east positive: from 180 degrees west to just below 180 degrees east.
 abbrev pub longitudes : Range
 longitudes = range (negsuc 1048575) (pos 1048575)
 
--- an altitude in 4 feet
+-- An altitude in 4 feet.
 abbrev pub altitudes : Range
 altitudes = range (negsuc 32767) (pos 32767)
 
--- a time past the hour in 1/8 second
+-- A time past the hour in 1/8 second.
 abbrev pub times_past_hour : Range
 times_past_hour = range (pos 0) (pos 28799)
 
--- a flag: 1 where it is set
+-- A flag: 1 where it is set.
 abbrev pub flags : Range
 flags = range (pos 0) (pos 1)
 
--- a code of position accuracy
+-- A code of position accuracy.
 abbrev pub accuracies : Range
 accuracies = range (pos 0) (pos 7)
 
--- a time to go in seconds
+-- A time to go in seconds.
 abbrev pub times_to_go : Range
 times_to_go = range (pos 0) (pos 16383)
 
--- an angle in 360/4096 degree
+-- An angle in 360/4096 degree.
 abbrev pub angles : Range
 angles = range (pos 0) (pos 4095)
 
--- a speed: over the ground in 1/2 knot, through the air in Mach 0.0005
+-- A speed: over the ground in 1/2 knot, through the air in Mach 0.0005.
 abbrev pub speeds : Range
 speeds = range (pos 0) (pos 8191)
 
--- a vertical rate in 16 feet a minute, up positive
+-- A vertical rate in 16 feet a minute, up positive.
 abbrev pub vertical_rates : Range
 vertical_rates = range (negsuc 2047) (pos 2047)
 
--- a wind speed in 1/2 knot
+-- A wind speed in 1/2 knot.
 abbrev pub wind_speeds : Range
 wind_speeds = range (pos 0) (pos 511)
 
--- a wind direction in 360/512 degree
+-- A wind direction in 360/512 degree.
 abbrev pub wind_directions : Range
 wind_directions = range (pos 0) (pos 511)
 
--- a temperature in 0.25 degree Celsius
+-- A temperature in 0.25 degree Celsius.
 abbrev pub temperatures : Range
 temperatures = range (negsuc 2047) (pos 2047)
 
--- a distance from the planned track in 0.125 nautical mile; its sign tells the side
+-- A distance from the planned track in 0.125 nautical mile; its sign tells the side.
 abbrev pub cross_tracks : Range
 cross_tracks = range (negsuc 32766) (pos 32767)
 
--- a column of a sample: its name and the range of its values
+-- A column of a sample: its name and the range of its values.
 pub record Column : Type 0 where
   pub name : List ℕ
   pub range : Range
 
--- the column of that name and range
+-- The column of that name and range.
 abbrev pub column : List ℕ → Range → Column
 column name range = record { name = name; range = range }
 
--- the columns of a sample, in their order
+-- The columns of a sample, in their order.
 abbrev pub columns : List Column
 columns =
     column (codes "lat") latitudes ∷ column (codes "lon") longitudes ∷ column (codes "alt") altitudes

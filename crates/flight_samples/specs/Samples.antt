@@ -2,7 +2,7 @@
 use Rattle.std.specs.Prelude.{ℤ, List, [], ◌∷◌}
 use Rattle.flight_samples.specs.declared.sample.Sample.{Sample}
 
--- the values of a sample, in the order of the columns
+-- The values of a sample, in the order of the columns.
 abbrev pub values_of : Sample → List ℤ
 values_of s =
     s.lat ∷ s.lon ∷ s.alt ∷ s.sec ∷ s.tcas ∷ s.acc ∷ s.red

@@ -21,51 +21,30 @@ pub enum NumberFault {
 /// The value that reading stops at, above each bound of a range.
 const LIMIT: u64 = 4_294_967_296;
 
-/// Whether each byte is a digit.
-fn all_digits(text: &[u8]) -> bool
-    ensures { IsTrue result ↔ AllDigits 10 text.now }
-{
-    for byte in text {
-        if !byte.is_ascii_digit() {
-            return false;
-        }
-    }
-    true
-}
-
-/// Whether the text has the form of a natural number.
-fn is_natural(text: &[u8]) -> bool
-    ensures { IsTrue result ↔ IsNaturalForm text.now }
-{
-    match text {
-        [] => false,
-        [b'0', _, ..] => false,
-        _ => all_digits(text),
-    }
-}
-
-/// The number that the digits write, or `LIMIT` where it is larger.
-fn value_up_to_limit(digits: &[u8]) -> u64
-    requires { AllDigits 10 digits.now }
-    ensures { result ≡ min (digits_value 10 digits.now) LIMIT }
-{
-    let mut value = 0;
-    for digit in digits {
-        value = LIMIT.min(value * 10 + u64::from(digit - b'0'));
-    }
-    value
-}
-
 /// The number of a text of digits without a leading zero, or `LIMIT` where it is larger.
 fn natural_value(text: &[u8]) -> Option<u64>
     ensures some { IfSome result (λ v. (n : ℕ) × IsNaturalText n text.now × (v ≡ min n LIMIT)) }
     ensures none { IfNone result ((n : ℕ) → ¬ IsNaturalText n text.now) }
 {
-    if is_natural(text) {
-        Some(value_up_to_limit(text))
-    } else {
-        None
+    if let [] | [b'0', _, ..] = text {
+        return None;
     }
+    digits_up_to_limit(text)
+}
+
+/// The number that the digits write, or `LIMIT` where it is larger; none where a byte is no digit.
+fn digits_up_to_limit(text: &[u8]) -> Option<u64>
+    ensures some { IfSome result (λ v. AllDigits 10 text.now × (v ≡ min (digits_value 10 text.now) LIMIT)) }
+    ensures none { IfNone result (¬ AllDigits 10 text.now) }
+{
+    let mut value = 0;
+    for byte in text {
+        if !byte.is_ascii_digit() {
+            return None;
+        }
+        value = LIMIT.min(value * 10 + u64::from(byte - b'0'));
+    }
+    Some(value)
 }
 
 /// Reads a natural number from `low` to `high`.
@@ -120,7 +99,8 @@ fn within(value: i64, low: i32, high: i32) -> Result<i32, NumberFault>
 
 /// The number of a text in the form that numbers from `low` on have, or one past `LIMIT` or minus `LIMIT` on the same side.
 fn number_value(text: &[u8], low: i32) -> Option<i64>
-    ensures some { IfSome result (λ v. (z : ℤ) × IsNumberText low z text.now × AgreeWithin LIMIT z v) }
+    ensures some { IfSome result (λ v. (z : ℤ)
+        × IsNumberText low z text.now × AgreeWithin LIMIT z v) }
     ensures none { IfNone result ((z : ℤ) → ¬ IsNumberText low z text.now) }
 {
     if low < 0 {
@@ -143,7 +123,8 @@ fn signed_value(text: &[u8]) -> Option<i64>
 
 /// The number of a text without a `-`.
 fn unsigned_value(text: &[u8]) -> Option<i64>
-    ensures some { IfSome result (λ v. (n : ℕ) × IsNaturalText n text.now × AgreeWithin LIMIT (pos n) v) }
+    ensures some { IfSome result (λ v. (n : ℕ)
+        × IsNaturalText n text.now × AgreeWithin LIMIT (pos n) v) }
     ensures none { IfNone result ((n : ℕ) → ¬ IsNaturalText n text.now) }
 {
     Some(natural_value(text)? as i64)
@@ -151,7 +132,8 @@ fn unsigned_value(text: &[u8]) -> Option<i64>
 
 /// The number below 0 whose text is these digits after a `-`.
 fn negative_value(digits: &[u8]) -> Option<i64>
-    ensures some { IfSome result (λ v. (n : ℕ) × IsNaturalText (n + 1) digits.now × AgreeWithin LIMIT (negsuc n) v) }
+    ensures some { IfSome result (λ v. (n : ℕ)
+        × IsNaturalText (n + 1) digits.now × AgreeWithin LIMIT (negsuc n) v) }
     ensures none { IfNone result ((n : ℕ) → ¬ IsNaturalText (n + 1) digits.now) }
 {
     match natural_value(digits)? {

@@ -1,41 +1,130 @@
-//! The columns of a text, split at its commas.
+//! A row of fields, read as a sample.
 
-ghost use Rattle.std.specs.Prelude.{◌≡◌, ◌<◌, ◌≤◌, [], IfOk, All, MatchOption, option_map, slice_index_or};
-ghost use Rattle.csv.specs.Machine.{next_record};
-ghost use Rattle.csv.specs.Reading.{default_config, strip_bom};
+ghost use Rattle.std.specs.Prelude.{◌≡◌, ◌<◌, ◌≤◌, ℕ, ℤ, pos, [], IfErr, IfOk, length, slice_index_or};
 ghost use Rattle.csv.specs.Records.{fields_of};
-ghost use Rattle.csv.specs.declared.parser.State.TheVariants as st;
-ghost use Rattle.flight_samples.specs.SampleText.{IsPlain, columns_of};
+ghost use Rattle.flight_samples.specs.Columns.{IsIn};
+ghost use Rattle.flight_samples.specs.SampleText.{AreSampleValues, IsColumnFault, IsSampleFault, IsValueAt, column_count, range_at};
+ghost use Rattle.flight_samples.specs.Samples.{values_of};
 
-use csv::{ByteRecord, Error, ReaderBuilder};
-use std::alloc::Global;
-
-/// The first record of a text, if it has one.
-fn first_record(alloc: Global, text: &[u8]) -> Result<Option<ByteRecord>, Error>
-    ensures { IfOk result (λ o. option_map fields_of o ≡ option_map (λ p. p.0) (next_record default_config st.StartRecord [] [] (strip_bom text.now))) }
-{
-    let mut reader = ReaderBuilder::new()
-        .has_headers(false)
-        .from_reader(alloc, text);
-    let mut row = ByteRecord::new(alloc);
-    if reader.read_byte_record(&mut row)? {
-        Ok(Some(row))
-    } else {
-        Ok(None)
-    }
-}
-
-/// The columns of a text, or none where it is empty.
-pub(crate) fn split_columns(alloc: Global, text: &[u8]) -> Result<Option<ByteRecord>, Error>
-    requires { All IsPlain text.now }
-    ensures { IfOk result (λ o. MatchOption o (text.now ≡ []) (λ row. fields_of row ≡ columns_of text.now)) }
-{
-    first_record(alloc, text)
-}
+use crate::columns::{COLUMN_COUNT, limits_at};
+use crate::decimal::{NumberFault, read_integer};
+use crate::read::SampleRefusal;
+use crate::sample::Sample;
+use csv::ByteRecord;
 
 /// The field at a place of a row, empty where the row has none there.
 pub(crate) fn field_at(row: &ByteRecord, place: usize) -> &[u8]
     ensures { result.now ≡ slice_index_or (fields_of row.now) place [] }
 {
     row.get(place).unwrap_or(&[])
+}
+
+/// The value of the column at a place of a row, or why it has none.
+fn read_column(row: &ByteRecord, place: usize) -> Result<i32, NumberFault>
+    requires { place < column_count }
+    ensures ok { IfOk result (IsValueAt (fields_of row.now) place) }
+    ensures fault { IfErr result (IsColumnFault (fields_of row.now) place) }
+    ensures read { (z : ℤ) → IsValueAt (fields_of row.now) place z → result ≡ Ok z }
+    ensures refused { (e : NumberFault)
+        → IsColumnFault (fields_of row.now) place e → result ≡ Err e }
+{
+    let limits = limits_at(place);
+    read_integer(field_at(row, place), limits.low, limits.high)
+}
+
+/// The values of a row that has a field for each column, or the first bad column.
+fn read_values(row: &ByteRecord) -> Result<[i32; COLUMN_COUNT], SampleRefusal>
+    requires { length (fields_of row.now) ≡ column_count }
+    ensures ok { IfOk result (AreSampleValues (fields_of row.now)) }
+    ensures refused { IfErr result (IsSampleFault (fields_of row.now)) }
+{
+    let mut values = [0; COLUMN_COUNT];
+    for place in 0..COLUMN_COUNT {
+        match read_column(row, place) {
+            Ok(value) => values[place] = value,
+            Err(why) => {
+                let index = place as u32 + 1;
+                return Err(SampleRefusal::Column { index, why });
+            }
+        }
+    }
+    Ok(values)
+}
+
+/// The sample of these values.
+fn sample_of(values: [i32; COLUMN_COUNT]) -> Sample
+    requires count { length values ≡ column_count }
+    requires ranges { (place : ℕ) → place < column_count
+        → IsIn (range_at place) (slice_index_or values place (pos 0)) }
+    ensures { values_of result ≡ values }
+{
+    let [
+        lat,
+        lon,
+        alt,
+        sec,
+        tcas,
+        acc,
+        red,
+        wlat,
+        wlon,
+        walt,
+        eta,
+        nlat,
+        nlon,
+        nalt,
+        tinv,
+        track,
+        gs,
+        vr,
+        hinv,
+        heading,
+        mach,
+        wind,
+        winv,
+        wdir,
+        temp,
+        xtk,
+    ] = values;
+    Sample {
+        lat,
+        lon,
+        alt,
+        sec,
+        tcas,
+        acc,
+        red,
+        wlat,
+        wlon,
+        walt,
+        eta,
+        nlat,
+        nlon,
+        nalt,
+        tinv,
+        track,
+        gs,
+        vr,
+        hinv,
+        heading,
+        mach,
+        wind,
+        winv,
+        wdir,
+        temp,
+        xtk,
+    }
+}
+
+/// The sample of a row, or why it is none.
+pub(crate) fn sample_of_row(row: &ByteRecord) -> Result<Sample, SampleRefusal>
+    requires { length (fields_of row.now) ≤ 4097 }
+    ensures ok { IfOk result (λ s. AreSampleValues (fields_of row.now) (values_of s)) }
+    ensures refused { IfErr result (IsSampleFault (fields_of row.now)) }
+{
+    if row.len() != COLUMN_COUNT {
+        let found = row.len() as u32;
+        return Err(SampleRefusal::Count { found });
+    }
+    Ok(sample_of(read_values(row)?))
 }

@@ -68,20 +68,29 @@ fn naturals(rt: HostRuntime) -> Result<(), Fail> {
     Ok(())
 }
 
-fn read(rt: &(impl Abort + AllocGlobal), text: &[u8]) -> Result<Sample, SampleRefusal> {
+const ZEROS: &[u8] = b"0,0,0,0,0,0,0,0,0,0,0,0,0,0,0,0,0,0,0,0,0,0,0,0,0,0";
+
+/// What the kept reader and a new one read of the text, which is one answer.
+fn read(
+    rt: &(impl Abort + AllocGlobal),
+    samples: &mut SampleReader,
+    text: &[u8],
+) -> Result<Sample, SampleRefusal> {
     assert!(rt; text.len() <= LONGEST_COLUMNS);
     assert!(rt; is_plain(text));
-    read_sample(rt.alloc(), text)
+    let kept = samples.read(text);
+    assert_eq!(rt; kept, read_sample(rt.alloc(), text));
+    kept
 }
 
 #[test]
 fn right_samples(rt: HostRuntime) -> Result<(), Fail> {
-    let zeros = b"0,0,0,0,0,0,0,0,0,0,0,0,0,0,0,0,0,0,0,0,0,0,0,0,0,0";
-    assert_eq!(rt; read(&rt, zeros), Ok(Sample::zero()));
+    let mut samples = SampleReader::new(rt.alloc());
+    assert_eq!(rt; read(&rt, &mut samples, ZEROS), Ok(Sample::zero()));
     let lowest =
         b"-524288,-1048576,-32768,0,0,0,0,-524288,-1048576,-32768,0,-524288,-1048576,-32768,0,0,0,-2048,0,0,0,0,0,0,-2048,-32767";
     assert_eq!(rt;
-        read(&rt, lowest),
+        read(&rt, &mut samples, lowest),
         Ok(Sample {
             lat: -524_288,
             lon: -1_048_576,
@@ -114,7 +123,7 @@ fn right_samples(rt: HostRuntime) -> Result<(), Fail> {
     let highest =
         b"524288,1048575,32767,28799,1,7,1,524288,1048575,32767,16383,524288,1048575,32767,1,4095,8191,2047,1,4095,8191,511,1,511,2047,32767";
     assert_eq!(rt;
-        read(&rt, highest),
+        read(&rt, &mut samples, highest),
         Ok(Sample {
             lat: 524_288,
             lon: 1_048_575,
@@ -146,7 +155,7 @@ fn right_samples(rt: HostRuntime) -> Result<(), Fail> {
     );
     let distinct = b"1,-2,3,4,0,5,1,-6,7,-8,9,10,11,12,1,13,14,-15,0,16,17,18,1,19,-20,21";
     assert_eq!(rt;
-        read(&rt, distinct),
+        read(&rt, &mut samples, distinct),
         Ok(Sample {
             lat: 1,
             lon: -2,
@@ -180,7 +189,7 @@ fn right_samples(rt: HostRuntime) -> Result<(), Fail> {
 }
 
 #[test]
-fn wrong_samples(rt: HostRuntime) -> Result<(), Fail> {
+fn wrong_samples_among_right_ones(rt: HostRuntime) -> Result<(), Fail> {
     let cases: [(&[u8], Result<Sample, SampleRefusal>); 22] = [
         (b"", Err(SampleRefusal::Count { found: 1 })),
         (b",", Err(SampleRefusal::Count { found: 2 })),
@@ -313,9 +322,17 @@ fn wrong_samples(rt: HostRuntime) -> Result<(), Fail> {
             }),
         ),
     ];
+    let mut samples = SampleReader::new(rt.alloc());
     for (text, wanted) in cases {
-        assert_eq!(rt; read(&rt, text), wanted);
+        assert_eq!(rt; read(&rt, &mut samples, text), wanted);
+        assert_eq!(rt; read(&rt, &mut samples, ZEROS), Ok(Sample::zero()));
     }
+    let commas = [b','; LONGEST_COLUMNS];
+    assert_eq!(rt;
+        read(&rt, &mut samples, &commas),
+        Err(SampleRefusal::Count { found: 4097 })
+    );
+    assert_eq!(rt; read(&rt, &mut samples, ZEROS), Ok(Sample::zero()));
     assert!(rt; !is_plain(b"0,\"0\""));
     assert!(rt; !is_plain(b"0\r"));
     assert!(rt; !is_plain(b"0\n"));

@@ -1,12 +1,13 @@
 -- A line has one first fault.
-use Rattle.std.proofs.Common.{◌≡◌, ◌≢◌, ◌⊎◌, ℕ, Result, Ok, Err, IfOk, IfErr, List, length, refl, sym, ap, ◌∙◌, subst, arith, inl, inr}
+use Rattle.std.proofs.Common.{◌≡◌, ◌≢◌, ◌⊎◌, ◌-◌, ℕ, Result, Ok, Err, IfOk, IfErr, List, length, refl, sym, ap, ◌∙◌, subst, arith, inl, inr}
 use Rattle.std.proofs.lemmas.Bool.{cases_order}
+use Rattle.net_script.specs.Addresses.{IsFirstRepeat, listed_addresses}
 use Rattle.net_script.specs.Bytes.{IsFirstBarred}
 use Rattle.net_script.specs.Counts.{HasCount}
 use Rattle.net_script.specs.Faults.{IsByteFault, IsContentFault, IsCountFault, IsFieldsFault, IsFirstLineFault, IsFirstTwice, IsFirstWrong, IsLineRefusal}
 use Rattle.net_script.specs.Fields.{fields_of}
-use Rattle.net_script.specs.Forms.{Form}
-use Rattle.net_script.specs.Lines.{IsScriptLine, form_at}
+use Rattle.net_script.specs.Forms.{IsRight}
+use Rattle.net_script.specs.Lines.{IsScriptLine}
 use Rattle.net_script.specs.declared.letter.Letter.{Letter}
 use Rattle.net_script.specs.declared.letter.Letter.TheVariants.{Uplink}
 use Rattle.net_script.specs.declared.line.ScriptLine.{ScriptLine}
@@ -26,28 +27,33 @@ barred_same line m n one other = elim (cases_order m n) [
   | inr (inr above) ↦ absurd (true_is_not_false _ other.barred (one.before n above))
 ]
 
-wrong_same : (forms : ℕ → Form) (fields : List (List ℕ)) (m n : ℕ) → IsFirstWrong forms fields m → IsFirstWrong forms fields n → m ≡ n
-wrong_same forms fields m n one other = elim (cases_order m n) [
+wrong_same : (right : List (List ℕ) → ℕ → Type 0) (fields : List (List ℕ)) (m n : ℕ) → IsFirstWrong right fields m → IsFirstWrong right fields n → m ≡ n
+wrong_same right fields m n one other = elim (cases_order m n) [
   | inl same ↦ same
   | inr (inl below) ↦ absurd (one.wrong (other.before m one.some below))
   | inr (inr above) ↦ absurd (other.wrong (one.before n other.some above))
 ]
 
-twice_same : (letter : Letter) (fields : List (List ℕ)) (m n : ℕ) → IsFirstTwice letter fields m → IsFirstTwice letter fields n → m ≡ n
-twice_same letter fields m n one other = elim (cases_order m n) [
+repeat_same : (addresses : List (List ℕ)) (m n : ℕ) → IsFirstRepeat addresses m → IsFirstRepeat addresses n → m ≡ n
+repeat_same addresses m n one other = elim (cases_order m n) [
   | inl same ↦ same
   | inr (inl below) ↦ absurd (other.before m below one.again)
   | inr (inr above) ↦ absurd (one.before n above other.again)
 ]
 
+twice_same : (letter : Letter) (fields : List (List ℕ)) (m n : ℕ) → IsFirstTwice letter fields m → IsFirstTwice letter fields n → m ≡ n
+twice_same letter fields m n one other =
+    let same = repeat_same (listed_addresses fields) (m - 1) (n - 1) one.again other.again in
+    omega (arith, one.some, other.some, same)
+
 -- ---- the first rule
 
--- the two faults are one
+-- The two faults are one.
 abbrev AreOne : Code → Code → ℕ → ℕ → Type 0
 AreOne a b m n = (a ≡ b) × (m ≡ n)
 
 fields_fault_same : (letter : Letter) (fields : List (List ℕ)) (a b : Code) (m n : ℕ) → IsFieldsFault letter fields a m → IsFieldsFault letter fields b n → AreOne a b m n
-fields_fault_same letter fields code.Field code.Field m n one other = (refl, wrong_same (form_at letter) fields m n one other)
+fields_fault_same letter fields code.Field code.Field m n one other = (refl, wrong_same (IsRight letter) fields m n one other)
 fields_fault_same letter fields code.Twice code.Twice m n one other = (refl, twice_same letter fields m n one other)
 fields_fault_same letter fields code.Field code.Twice m n one other = absurd (one.wrong (other.right m one.some one.inside))
 fields_fault_same letter fields code.Twice code.Field m n one other = absurd (other.wrong (one.right n other.some other.inside))
@@ -94,14 +100,14 @@ fault_same line a b m n one other = content_fault_same line a b m n one other
 
 -- ---- what a reading answers that tells a value or a fault
 
--- where the line says this
+-- Where the line says this.
 pub reads : (line : List ℕ) (r : Result ScriptLine LineRefusal) → IfOk r (λ value. IsScriptLine value line) → IfErr r (IsLineRefusal line)
     → (value : ScriptLine) → IsScriptLine value line → (r ≡ Ok value) ⊎ (r ≡ Err NoMemory)
 reads line (Ok found) ok refused value is = inl (ap (λ (v : ScriptLine). Ok v) (one_value line found value ok is))
 reads line (Err NoMemory) ok refused value is = inr refl
 reads line (Err (Bad fault n)) ok refused value is = absurd (no_fault value line fault n is refused)
 
--- where the line has this fault
+-- Where the line has this fault.
 pub tells : (line : List ℕ) (r : Result ScriptLine LineRefusal) → IfOk r (λ value. IsScriptLine value line) → IfErr r (IsLineRefusal line)
     → (fault : Code) (n : ℕ) → IsFirstLineFault line fault n → (r ≡ Err (Bad fault n)) ⊎ (r ≡ Err NoMemory)
 tells line (Ok found) ok refused fault n is = absurd (no_fault found line fault n ok is)

@@ -1,13 +1,15 @@
 -- The laws of lines and their faults.
 use Rattle.std.proofs.Common.{◌≡◌, ◌≢◌, ◌==◌, ◌-◌, ◌<◌, ◌≤◌, ℕ, zero, suc, Bool, true, false, Option, Some, None, List, length, get_or, refl, sym, ap, ◌∙◌, subst, arith, inl, inr}
 use Rattle.std.specs.Prelude.{if◌then◌else◌}
-use Rattle.acars_envelope.specs.Names.{IsAddress, IsFlight}
+use Rattle.acars_envelope.specs.Names.{IsAddress}
+use Rattle.aircraft_core.specs.declared.who.Who.{Who}
+use Rattle.net_script.specs.Addresses.{AreDifferent, listed_addresses}
 use Rattle.net_script.specs.Counts.{HasCount}
-use Rattle.net_script.specs.Faults.{AreRightBefore, HasLetter, IsContentFault, IsFieldsFault, IsFirstLineFault}
+use Rattle.net_script.specs.Faults.{IsContentFault, IsFieldsFault, IsFirstLineFault}
 use Rattle.net_script.specs.Fields.{field_at, fields_of}
-use Rattle.net_script.specs.Forms.{HasForm, a_column}
-use Rattle.net_script.specs.Letters.{letter_code}
-use Rattle.net_script.specs.Lines.{AreDifferent, IsScriptLine, Says, form_at, letter_of}
+use Rattle.net_script.specs.Forms.{AreRightBefore, HasForm, a_column}
+use Rattle.net_script.specs.Letters.{HasLetter, letter_code}
+use Rattle.net_script.specs.Lines.{IsScriptLine, Says, SaysWho, letter_of}
 use Rattle.net_script.specs.declared.letter.Letter.{Letter}
 use Rattle.net_script.specs.declared.letter.Letter.TheVariants.{Aircraft, Ground, Sample, Time, Emergency, Logon, Uplink, Request, Cancel, Bring, Receive}
 use Rattle.net_script.specs.declared.line.ScriptLine.{ScriptLine}
@@ -19,7 +21,7 @@ use Rattle.net_script.proofs.SampleLaws.{form_of_value}
 
 -- ---- letters
 
--- the letter of a byte
+-- The letter of a byte.
 letter_named : ℕ → Option Letter
 letter_named c =
     if c == 65 then Some Aircraft else if c == 71 then Some Ground else if c == 83 then Some Sample else if c == 84 then Some Time
@@ -40,11 +42,11 @@ named Cancel = refl
 named Bring = refl
 named Receive = refl
 
--- values that are found alike are one
+-- Values that are found alike are one.
 pub some_same : {X : Type 0} (a b : X) → Some a ≡ Some b → a ≡ b
 some_same a b e = cc
 
--- a line has one letter
+-- A line has one letter.
 pub letter_same : (bytes : List ℕ) (a b : Letter) → HasLetter bytes a → HasLetter bytes b → a ≡ b
 letter_same bytes a b one other =
     let codes : letter_code a ≡ letter_code b = ap (λ text. get_or text 0 0) (sym one ∙ other) in
@@ -52,7 +54,7 @@ letter_same bytes a b one other =
 
 -- ---- right lines
 
--- what holds of each field of a line of two, three, four fields
+-- What holds of each field of a line of two, three fields.
 only_1 : (P : ℕ → Type 0) (count : ℕ) → count ≡ 2 → P 1 → (k : ℕ) → 1 ≤ k → k < count → P k
 only_1 P count size one zero from below = absurd (omega arith)
 only_1 P count size one (suc zero) from below = one
@@ -64,21 +66,26 @@ only_2 P count size one two (suc zero) from below = one
 only_2 P count size one two (suc (suc zero)) from below = two
 only_2 P count size one two (suc (suc (suc k))) from below = absurd (omega arith)
 
-only_3 : (P : ℕ → Type 0) (count : ℕ) → count ≡ 4 → P 1 → P 2 → P 3 → (k : ℕ) → 1 ≤ k → k < count → P k
-only_3 P count size one two three zero from below = absurd (omega arith)
-only_3 P count size one two three (suc zero) from below = one
-only_3 P count size one two three (suc (suc zero)) from below = two
-only_3 P count size one two three (suc (suc (suc zero))) from below = three
-only_3 P count size one two three (suc (suc (suc (suc k)))) from below = absurd (omega arith)
+-- Each field of an `A` line is right.
+aircraft_right : (who : Who) (fields : List (List ℕ)) → HasCount Aircraft (length fields) → SaysWho fields who → AreRightBefore Aircraft fields (length fields)
+aircraft_right who fields count says zero from below = absurd (omega arith)
+aircraft_right who fields count says (suc zero) from below = says.is_mark
+aircraft_right who fields count says (suc (suc zero)) from below = says.is_flight
+aircraft_right who fields count says (suc (suc (suc zero))) from below = (who.airframe, who.address_size, says.airframe)
+aircraft_right who fields count says (suc (suc (suc (suc zero)))) from below =
+    elim says.profile [
+      | inl none ↦ absurd (omega (arith, none.0))
+      | inr is ↦ (who.profile, is)
+    ]
+aircraft_right who fields count says (suc (suc (suc (suc (suc k))))) from below = absurd (omega (arith, count.1))
 
--- each field of a line has its form
+-- Each field of a line is right.
 abbrev Right : ScriptLine → List (List ℕ) → Type 0
-Right value fields = AreRightBefore (form_at (letter_of value)) fields (length fields)
+Right value fields = AreRightBefore (letter_of value) fields (length fields)
 
 pub fields_right : (value : ScriptLine) (fields : List (List ℕ)) → HasCount (letter_of value) (length fields) → Says value fields → Right value fields
-fields_right (line.A who) fields count says =
-    only_3 _ (length fields) count says.is_mark (subst IsFlight (sym says.flight_written) says.is_flight) (who.airframe, says.is_airframe, says.airframe_written)
-fields_right (line.G addresses) fields count says = says.each
+fields_right (line.A who) fields count says = aircraft_right who fields count says
+fields_right (line.G addresses reserved) fields count says = says.right
 fields_right (line.S sample) fields count says = columns
   where
     columns : Right (line.S sample) fields
@@ -97,23 +104,23 @@ fields_right (line.K address cancel) fields count says = only_2 _ (length fields
 fields_right (line.B address place) fields count says = only_2 _ (length fields) count (subst IsAddress (sym says.0.written) says.0.is_address) (place, says.1)
 fields_right (line.R address place) fields count says = only_2 _ (length fields) count (subst IsAddress (sym says.0.written) says.0.is_address) (place, says.1)
 
--- the addresses of a ground line are different
-fields_different : (value : ScriptLine) (fields : List (List ℕ)) → letter_of value ≡ Ground → Says value fields → AreDifferent fields
-fields_different (line.G addresses) fields ground says = says.different
+-- The addresses of a ground line are different.
+fields_different : (value : ScriptLine) (fields : List (List ℕ)) → letter_of value ≡ Ground → Says value fields → AreDifferent (listed_addresses fields)
+fields_different (line.G addresses reserved) fields ground says = subst AreDifferent (sym says.listed) says.different
 fields_different other fields ground says = absurd (cc)
 
 -- ---- a line that says something has no fault
 
--- a test has one answer
+-- A test has one answer.
 pub true_is_not_false : (b : Bool) → b ≡ true → b ≡ false → ⊥
 true_is_not_false b one other = cc
 
 no_fields_fault : (value : ScriptLine) (letter : Letter) (fields : List (List ℕ)) (found : Code) (n : ℕ) → letter_of value ≡ letter
     → HasCount (letter_of value) (length fields) → Says value fields → IsFieldsFault letter fields found n → ⊥
 no_fields_fault value letter fields code.Field n is count says fault =
-    fault.wrong (subst (λ l. AreRightBefore (form_at l) fields (length fields)) is (fields_right value fields count says) n fault.some fault.inside)
+    fault.wrong (subst (λ l. AreRightBefore l fields (length fields)) is (fields_right value fields count says) n fault.some fault.inside)
 no_fields_fault value letter fields code.Twice n is count says fault =
-    fields_different value fields (is ∙ fault.ground) says n fault.inside fault.again
+    fields_different value fields (is ∙ fault.ground) says (n - 1) fault.again.inside fault.again.again
 no_fields_fault value letter fields other n is count says fault = absurd fault
 
 no_content_fault : (value : ScriptLine) (bytes : List ℕ) (found : Code) (n : ℕ) → IsScriptLine value bytes → IsContentFault bytes found n → ⊥

@@ -11,9 +11,9 @@ use Rattle.flight_samples.proofs.DecimalLemmas.{no_integer_fault}
 use Rattle.net_script.specs.Bytes.{AreClean, is_barred}
 use Rattle.net_script.specs.Faults.{IsFirstWrong}
 use Rattle.net_script.specs.Fields.{comma, field_at, fields_of}
-use Rattle.net_script.specs.Forms.{HasForm, a_column}
-use Rattle.net_script.specs.Lines.{form_at}
+use Rattle.net_script.specs.Forms.{HasForm, IsRight, a_column}
 use Rattle.net_script.specs.declared.letter.Letter.TheVariants.{Sample}
+use Rattle.net_script.proofs.FieldsLaws.{field-drop}
 
 -- ---- plain bytes
 
@@ -21,7 +21,7 @@ true_behind : (b : Bool) → (b || true) ≡ false → ⊥
 true_behind true e = cc
 true_behind false e = cc
 
--- a byte that isn't barred is neither of these
+-- A byte that isn't barred is neither of these.
 not_barred : (byte : ℕ) → is_barred byte ≡ false → (byte ≤ 0x7E) × (byte ≢ 34) × (byte ≢ 13)
 not_barred byte clean = (low (cases_lt 0x7E byte), (λ quote. at 34 refl (subst (λ b. is_barred b ≡ false) quote clean)), (λ carriage. at 13 refl (subst (λ b. is_barred b ≡ false) carriage clean)))
   where
@@ -32,7 +32,7 @@ not_barred byte clean = (low (cases_lt 0x7E byte), (λ quote. at 34 refl (subst 
     low (inl above) = absurd (true_behind ((byte == 34) || (byte == 13)) (rw (lt-ltb 0x7E byte above) at clean))
     low (inr under) = under
 
--- the bytes behind a comma of a clean line are plain
+-- The bytes behind a comma of a clean line are plain.
 pub plain_behind : (line field rest : List ℕ) → line ≡ field ++ comma ∷ rest → AreClean line → All (λ byte. byte ≢ 10) line → All IsPlain rest
 plain_behind line field rest joined clean ends k d near =
     let place = length field + suc k in
@@ -43,36 +43,31 @@ plain_behind line field rest joined clean ends k d near =
     let low : get_or rest k d ≤ 0x7E = subst (λ b. b ≤ 0x7E) moved byte.0 in
     (low, (λ e. byte.1 (moved ∙ e)), (λ e. byte.2 (moved ∙ e)), (λ e. ends place d inside (same ∙ e)))
 
--- what stands behind a comma is no longer than the line
+-- What stands behind a comma is no longer than the line.
 pub length-behind : (line field rest : List ℕ) → line ≡ field ++ comma ∷ rest → length rest ≤ length line
 length-behind line field rest joined = omega (arith, ap length joined, length-append field (comma ∷ rest))
 
 -- ---- columns and fields
 
--- the columns of a text are its fields
+-- The columns of a text are its fields.
 pub columns-are-fields : (text : List ℕ) → columns_of text ≡ fields_of text
 unfolding fields_of
 columns-are-fields text = refl
 
--- a column is the field one place further on
-column_at : (fields : List (List ℕ)) (k : ℕ) → field_at (drop 1 fields) k ≡ field_at fields (suc k)
-column_at [] k = refl
-column_at (first ∷ others) k = refl
-
--- a value at a place of the columns is what the field should have
+-- A value at a place of the columns is what the field should have.
 pub form_of_value : (fields : List (List ℕ)) (k : ℕ) (z : ℤ) → IsValueAt (drop 1 fields) k z → HasForm (a_column k) (field_at fields (suc k))
 form_of_value fields k z value =
-    (z, subst (IsNumberText (range_at k).low z) (column_at fields k) value.written, value.within)
+    (z, subst (IsNumberText (range_at k).low z) (field-drop fields k) value.written, value.within)
 
--- a column with a fault is a field that hasn't its form
+-- A column with a fault is a field that hasn't its form.
 no_form : (fields : List (List ℕ)) (k : ℕ) (why : NumberFault) → IsColumnFault (drop 1 fields) k why → ¬ HasForm (a_column k) (field_at fields (suc k))
 no_form fields k why fault has =
     no_integer_fault (range_at k).low (range_at k).high has.0 (field_at fields (suc k)) why has.1 has.2.0 has.2.1
-    (subst (λ text. IsIntegerFault (range_at k).low (range_at k).high text why) (column_at fields k) fault)
+    (subst (λ text. IsIntegerFault (range_at k).low (range_at k).high text why) (field-drop fields k) fault)
 
--- the first bad column is the first wrong field
+-- The first bad column is the first wrong field.
 pub wrong_column : (fields columns : List (List ℕ)) (index : ℕ) (why : NumberFault) → length fields ≡ 27 → drop 1 fields ≡ columns
-    → IsSampleFault columns (Column index why) → IsFirstWrong (form_at Sample) fields index
+    → IsSampleFault columns (Column index why) → IsFirstWrong (IsRight Sample) fields index
 wrong_column fields columns zero why count are fault = absurd (omega (arith, fault.1))
 wrong_column fields columns (suc k) why count are fault =
     let back : suc k - 1 ≡ k = omega arith in
@@ -91,7 +86,7 @@ wrong_column fields columns (suc k) why count are fault =
         let read = first.before j (omega arith) in
         subst (λ p. HasForm (a_column p) (field_at fields (suc j))) (sym back) (form_of_value fields j read.0 read.1)
 
--- as many columns as a sample has are counted right
+-- As many columns as a sample has are counted right.
 pub no_count : (fields columns : List (List ℕ)) (found : ℕ) → length fields ≡ 27 → drop 1 fields ≡ columns → IsSampleFault columns (Count found) → ⊥
 no_count fields columns found count are fault =
     fault.1 (fault.0 ∙ ap length (sym are) ∙ after fields count)

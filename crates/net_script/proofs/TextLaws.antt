@@ -9,7 +9,7 @@ use Rattle.net_script.specs.Lines.{IsScriptLine, TextBegins}
 use Rattle.net_script.specs.declared.line.ScriptLine.{ScriptLine}
 use Rattle.net_script.specs.declared.line.ScriptLine.TheVariants as line
 
--- the line begins with this field and a comma
+-- The line begins with this field and a comma.
 abbrev BeginsWith : List ℕ → List ℕ → Type 0
 BeginsWith text field = (rest : List ℕ) × (text ≡ field ++ comma ∷ rest)
 
@@ -30,12 +30,12 @@ begins_split (byte ∷ text) more = elim (cases_Bool (byte == comma)) [
       (begins_more byte text (slice_split (λ b. b == comma) text) (subst (λ fields. 2 ≤ length fields) split more) (begins_split text))
 ]
 
--- a line of two fields or more begins with its first field and a comma
+-- A line of two fields or more begins with its first field and a comma.
 begins : (text : List ℕ) → 2 ≤ length (fields_of text) → BeginsWith text (field_at (fields_of text) 0)
 unfolding fields_of
 begins text more = begins_split text more
 
--- a line of the letter `U` is that letter, a comma, and the text from place 2 on
+-- A line of the letter `U` is that letter, a comma, and the text from place 2 on.
 text_from_2 : (bytes : List ℕ) → 2 ≤ length (fields_of bytes) → field_at (fields_of bytes) 0 ≡ codes "U" → bytes ≡ codes "U," ++ drop 2 bytes
 text_from_2 bytes more letter =
     let behind = begins bytes more in
@@ -47,7 +47,7 @@ text_begins (line.U from) bytes is =
     subst (λ place. bytes ≡ codes "U," ++ drop place bytes) (sym is.says) (text_from_2 bytes is.count is.letter)
 text_begins other bytes is = tt
 
--- the same of a reading
+-- The same of a reading.
 pub text_begins_if : {E : Type 0} (r : Result ScriptLine E) (bytes : List ℕ) → IfOk r (λ value. IsScriptLine value bytes) → IfOk r (λ value. TextBegins value bytes)
 text_begins_if (Ok value) bytes is = text_begins value bytes is
 text_begins_if (Err e) bytes is = tt

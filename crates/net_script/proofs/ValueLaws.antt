@@ -1,11 +1,11 @@
 -- A line says one thing.
-use Rattle.std.proofs.Common.{◌≡◌, ◌^◌, ◌<◌, ◌==◌, ℕ, ℤ, pos, Bool, true, false, Option, Some, None, List, [], ◌∷◌, length, drop, get_or, refl, sym, ap, ap₂, ◌∙◌, subst, arith}
+use Rattle.std.proofs.Common.{◌≡◌, ◌^◌, ◌<◌, ◌==◌, ℕ, ℤ, pos, Bool, true, false, Option, Some, None, List, [], ◌∷◌, length, drop, get_or, refl, sym, ap, ap₂, ◌∙◌, subst, arith, inl, inr}
 use Rattle.std.specs.Prelude.{codes, if◌then◌else◌}
 use Rattle.std.specs.Int.{to_be_bytes, w32}
 use Rattle.std.proofs.Props.{props}
-use Rattle.std.proofs.lemmas.List.{same_lists, get_or_default}
+use Rattle.std.proofs.lemmas.List.{same_lists, get_or_default, get_or_past}
 use Rattle.acars_envelope.specs.Texts.{six_digits}
-use Rattle.acars_envelope.proofs.DigitsLaws.{same_octets}
+use Rattle.acars_envelope.proofs.CapitalDigits.{same_octets}
 use Rattle.adsc_requests.specs.Contents.{contents_of}
 use Rattle.adsc_requests.specs.Grammar.{EncodesUplink}
 use Rattle.adsc_requests.specs.declared.kind.Kind.TheVariants.{Demand, Periodic, Event, Emergency}
@@ -13,15 +13,17 @@ use Rattle.adsc_requests.specs.declared.message.Message.{Message}
 use Rattle.adsc_requests.specs.declared.message.Uplink.{Uplink}
 use Rattle.adsc_requests.proofs.Injective.{same_contents}
 use Rattle.adsc_requests.proofs.ReadingLaws.{one_reading}
+use Rattle.due_event.specs.declared.profile.Profile.{Profile}
+use Rattle.due_event.specs.declared.profile.Profile.TheVariants.{One, Two}
 use Rattle.flight_samples.specs.SampleText.{AreSampleValues, column_count}
 use Rattle.flight_samples.specs.Samples.{values_of}
 use Rattle.flight_samples.specs.declared.sample.Sample.{Sample}
 use Rattle.flight_samples.proofs.DecimalLemmas.{integer_text_same}
 use Rattle.flight_samples.proofs.SameSamples.{same_sample}
 use Rattle.net_script.specs.Fields.{field_at, fields_of}
-use Rattle.net_script.specs.Forms.{IsCancelText, IsNumberOf, IsRequestText}
-use Rattle.net_script.specs.Listing.{AddressList}
-use Rattle.net_script.specs.Lines.{IsAddressed, IsScriptLine, Says, letter_of}
+use Rattle.net_script.specs.Addresses.{AddressList}
+use Rattle.net_script.specs.Forms.{IsCancelText, IsNumberOf, IsProfileText, IsRequestText}
+use Rattle.net_script.specs.Lines.{IsAddressed, IsScriptLine, Says, SaysProfile, letter_of}
 use Rattle.net_script.specs.declared.limits.TheConstants.{MAX_TIME, MAX_PLACE}
 use Rattle.net_script.specs.declared.line.Cancel.{Cancel}
 use Rattle.net_script.specs.declared.line.Cancel.TheVariants.{Of, EmergencyMode, All}
@@ -29,21 +31,22 @@ use Rattle.net_script.specs.declared.line.ScriptLine.{ScriptLine}
 use Rattle.net_script.specs.declared.line.ScriptLine.TheVariants as line
 use Rattle.aircraft_core.specs.declared.who.Who.{Who}
 use Rattle.net_script.proofs.CleanLaws.{three_octets}
+use Rattle.net_script.proofs.GroundLaws.{reserved_same}
 use Rattle.net_script.proofs.LineLaws.{letter_same, some_same}
 
 -- ---- values by their texts
 
--- an address of 24 bits is told by its digits
+-- An address of 24 bits is told by its digits.
 airframe_same : (a b : ℕ) → a < 2 ^ 24 → b < 2 ^ 24 → six_digits a ≡ six_digits b → a ≡ b
 airframe_same a b small_a small_b same =
     let octets = same_octets (drop 1 (to_be_bytes w32 a)) (drop 1 (to_be_bytes w32 b)) (three_octets a) (three_octets b) same in
     omega (arith, ap (λ xs. get_or xs 0 0) octets, ap (λ xs. get_or xs 1 0) octets, ap (λ xs. get_or xs 2 0) octets)
 
--- a number is told by its text
+-- A number is told by its text.
 number_same : (low high m n : ℕ) (text : List ℕ) → IsNumberOf low high m text → IsNumberOf low high n text → m ≡ n
 number_same low high m n text one other = sym one.written.value ∙ other.written.value
 
--- the values of a sample are told by their columns
+-- The values of a sample are told by their columns.
 values_same : (columns : List (List ℕ)) (ys zs : List ℤ) → AreSampleValues columns ys → AreSampleValues columns zs → ys ≡ zs
 values_same columns ys zs one other =
     same_lists ys zs (one.value_count ∙ sym other.value_count) (λ k d within.
@@ -53,14 +56,38 @@ values_same columns ys zs one other =
     ∙ integer_text_same _ _ (get_or columns k []) (one.each k place).written.written (other.each k place).written.written
     ∙ get_or_default zs k (pos 0) d inside)
 
--- a switch is told by its text
+-- A switch is told by its text.
 switch_same : (a b : Bool) (text : List ℕ) → text ≡ (if a then codes "1" else codes "0") → text ≡ (if b then codes "1" else codes "0") → a ≡ b
 switch_same true true text one other = refl
 switch_same false false text one other = refl
 switch_same true false text one other = absurd (omega (arith, ap (λ xs. get_or xs 0 0) (sym one ∙ other)))
 switch_same false true text one other = absurd (omega (arith, ap (λ xs. get_or xs 0 0) (sym one ∙ other)))
 
--- the cancel that a letter names
+-- A profile is told by its text.
+profile_named : (a b : Profile) (text : List ℕ) → IsProfileText a text → IsProfileText b text → a ≡ b
+profile_named One One text one other = refl
+profile_named Two Two text one other = refl
+profile_named One Two text one other = absurd (omega (arith, ap (λ xs. get_or xs 0 0) (sym one ∙ other)))
+profile_named Two One text one other = absurd (omega (arith, ap (λ xs. get_or xs 0 0) (sym one ∙ other)))
+
+-- No text of a profile is empty.
+some_profile : (profile : Profile) (text : List ℕ) → IsProfileText profile text → length text ≡ 1
+some_profile One text is = ap length is
+some_profile Two text is = ap length is
+
+-- A line of four fields has no text of a profile.
+no_profile : (fields : List (List ℕ)) (profile : Profile) → length fields ≡ 4 → IsProfileText profile (field_at fields 4) → ⊥
+no_profile fields profile four is =
+    let none : field_at fields 4 ≡ [] = get_or_past fields 4 [] (omega arith) in
+    absurd (omega (arith, some_profile profile (field_at fields 4) is, ap length none))
+
+profile_same : (fields : List (List ℕ)) (a b : Profile) → SaysProfile fields a → SaysProfile fields b → a ≡ b
+profile_same fields a b (inl one) (inl other) = one.1 ∙ sym other.1
+profile_same fields a b (inl one) (inr is) = absurd (no_profile fields b one.0 is)
+profile_same fields a b (inr is) (inl other) = absurd (no_profile fields a other.0 is)
+profile_same fields a b (inr is) (inr was) = profile_named a b (field_at fields 4) is was
+
+-- The cancel that a letter names.
 cancel_named : ℕ → Option Cancel
 cancel_named c =
     if c == 80 then Some (Of Periodic) else if c == 86 then Some (Of Event) else if c == 77 then Some (Of Emergency)
@@ -75,15 +102,15 @@ named (Of Emergency) text is = rw is refl
 named EmergencyMode text is = rw is refl
 named All text is = rw is refl
 
--- a cancel is told by its text
+-- A cancel is told by its text.
 cancel_same : (a b : Cancel) (text : List ℕ) → IsCancelText a text → IsCancelText b text → a ≡ b
 cancel_same a b text one other = some_same a b (sym (named a text one) ∙ named b text other)
 
--- the one message of an uplink
+-- The one message of an uplink.
 sole_same : (a b : Message) (xs : List Message) → xs ≡ a ∷ [] → xs ≡ b ∷ [] → a ≡ b
 sole_same a b xs one other = cc
 
--- a request is told by its text
+-- A request is told by its text.
 request_same : (a b : Message) (text : List ℕ) → IsRequestText a text → IsRequestText b text → a ≡ b
 request_same a b text one other =
     let octets = same_octets one.octets other.octets one.bytes other.bytes (sym one.digits ∙ other.digits) in
@@ -91,7 +118,7 @@ request_same a b text one other =
     let uplink = same_contents one.uplink other.uplink contents in
     sole_same a b one.uplink.messages.items one.sole (ap (λ (u : Uplink). u.messages.items) uplink ∙ other.sole)
 
--- lists with the same addresses are equal
+-- Lists with the same addresses are equal.
 same_list : (a b : AddressList) → a.items ≡ b.items → a ≡ b
 same_list a b same = ap (λ (items : List (List ℕ)). let made : AddressList = record { items = items } in made) same
 
@@ -100,28 +127,36 @@ same_list a b same = ap (λ (items : List (List ℕ)). let made : AddressList = 
 address_same : (fields : List (List ℕ)) (a b : List ℕ) → IsAddressed fields a → IsAddressed fields b → a ≡ b
 address_same fields a b one other = sym one.written ∙ other.written
 
--- the fields of a line of one letter say one thing
+-- The fields of a line of one letter say one thing.
 abbrev SaysOne : ScriptLine → Type 0
 SaysOne value = (other : ScriptLine) (fields : List (List ℕ)) → letter_of other ≡ letter_of value → Says value fields → Says other fields → value ≡ other
 
-make_who : (registration flight : List ℕ) (airframe : ℕ) → airframe < 2 ^ 24 → Who
-make_who registration flight airframe size = record { registration = registration; flight = flight; airframe = airframe; address_size = size }
+make_who : (registration flight : List ℕ) (airframe : ℕ) (profile : Profile) → airframe < 2 ^ 24 → Who
+make_who registration flight airframe profile size =
+    record { registration = registration; flight = flight; airframe = airframe; profile = profile; address_size = size }
 
--- who an aircraft is, by the three names
-same_who : (a b : Who) → a.registration ≡ b.registration → a.flight ≡ b.flight → a.airframe ≡ b.airframe → a ≡ b
+-- Who an aircraft is, by its names and its profile.
+same_who : (a b : Who) → a.registration ≡ b.registration → a.flight ≡ b.flight → a.airframe ≡ b.airframe → a.profile ≡ b.profile → a ≡ b
 unfolding make_who
-same_who a b registration flight airframe =
-    subst (λ (x : List ℕ × List ℕ × ℕ). (size : x.2 < 2 ^ 24) → a ≡ make_who x.0 x.1 x.2 size) (λ i. (registration i, flight i, airframe i))
-    (λ size. ap (make_who a.registration a.flight a.airframe) (one a.address_size size)) b.address_size
+same_who a b registration flight airframe profile =
+    subst (λ (x : List ℕ × List ℕ × ℕ × Profile). (size : x.2 < 2 ^ 24) → a ≡ make_who x.0 x.1 x.2 x.3 size)
+    (λ i. (registration i, flight i, airframe i, profile i))
+    (λ size. ap (make_who a.registration a.flight a.airframe a.profile) (one a.address_size size)) b.address_size
   where
     one : IsProp (a.airframe < 2 ^ 24)
     one = hlevel props
 
 one_aircraft : (who : Who) → SaysOne (line.A who)
 one_aircraft who (line.A other) fields same one two =
-    ap (λ (w : Who). line.A w) (same_who who other (one.dotted ∙ sym two.dotted) (sym one.flight_written ∙ two.flight_written)
-    (airframe_same who.airframe other.airframe one.is_airframe two.is_airframe (sym one.airframe_written ∙ two.airframe_written)))
+    ap (λ (w : Who). line.A w) (same_who who other (one.registration ∙ sym two.registration) (one.flight ∙ sym two.flight)
+    (airframe_same who.airframe other.airframe who.address_size other.address_size (sym one.airframe ∙ two.airframe))
+    (profile_same fields who.profile other.profile one.profile two.profile))
 one_aircraft who other fields same one two = absurd (cc)
+
+one_ground : (addresses : AddressList) (reserved : Option ℕ) → SaysOne (line.G addresses reserved)
+one_ground addresses reserved (line.G others star) fields same one two =
+    ap₂ (λ (l : AddressList) (r : Option ℕ). line.G l r) (same_list addresses others (sym one.listed ∙ two.listed)) (reserved_same fields reserved star one.star two.star)
+one_ground addresses reserved other fields same one two = absurd (cc)
 
 one_sample : (sample : Sample) → SaysOne (line.S sample)
 one_sample sample (line.S other) fields same one two =
@@ -166,8 +201,7 @@ one_receive address place other fields same one two = absurd (cc)
 
 says_one : (value : ScriptLine) → SaysOne value
 says_one (line.A who) other fields same one two = one_aircraft who other fields same one two
-says_one (line.G addresses) (line.G other) fields same one two = ap (λ (l : AddressList). line.G l) (same_list addresses other (sym one.written ∙ two.written))
-says_one (line.G addresses) other fields same one two = absurd (cc)
+says_one (line.G addresses reserved) other fields same one two = one_ground addresses reserved other fields same one two
 says_one (line.S sample) other fields same one two = one_sample sample other fields same one two
 says_one (line.T time) other fields same one two = one_time time other fields same one two
 says_one (line.E on) other fields same one two = one_emergency on other fields same one two
@@ -178,7 +212,7 @@ says_one (line.K address cancel) other fields same one two = one_cancel address 
 says_one (line.B address place) other fields same one two = one_bring address place other fields same one two
 says_one (line.R address place) other fields same one two = one_receive address place other fields same one two
 
--- a line says one thing
+-- A line says one thing.
 pub one_value : (bytes : List ℕ) (a b : ScriptLine) → IsScriptLine a bytes → IsScriptLine b bytes → a ≡ b
 one_value bytes a b one other =
     says_one a b (fields_of bytes) (letter_same bytes (letter_of b) (letter_of a) other.letter one.letter) one.says other.says

@@ -2,8 +2,7 @@ pub mod Fields
 pub mod Letters
 pub mod Bytes
 pub mod Counts
+pub mod Addresses
 pub mod Forms
-pub mod Listing
 pub mod Lines
 pub mod Faults
-pub mod Repeats

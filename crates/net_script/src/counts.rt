@@ -11,7 +11,7 @@ pub(crate) fn has_count(letter: Letter, count: usize) -> bool
     ensures { IsTrue result ↔ HasCount letter count }
 {
     match letter {
-        Letter::Aircraft => count == AIRCRAFT_FIELDS,
+        Letter::Aircraft => AIRCRAFT_FIELDS <= count && count <= AIRCRAFT_FIELDS + 1,
         Letter::Ground => 2 <= count && count <= MAX_ADDRESSES + 1,
         Letter::Sample => count == SAMPLE_FIELDS,
         Letter::Time | Letter::Emergency | Letter::Logon => count == 2,

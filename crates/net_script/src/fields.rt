@@ -36,8 +36,10 @@ pub(crate) fn field_at(line: &[u8], place: usize) -> &[u8]
 
 /// What stands behind the first comma.
 pub(crate) fn behind_comma(text: &[u8]) -> Option<&[u8]>
-    ensures joined { IfSome result (λ rest. text.now ≡ field_at (fields_of text.now) 0 ++ comma ∷ rest.now) }
-    ensures some { IfSome result (λ rest. fields_of text.now ≡ field_at (fields_of text.now) 0 ∷ fields_of rest.now) }
+    ensures joined { IfSome result (λ rest.
+        text.now ≡ field_at (fields_of text.now) 0 ++ comma ∷ rest.now) }
+    ensures some { IfSome result (λ rest.
+        fields_of text.now ≡ field_at (fields_of text.now) 0 ∷ fields_of rest.now) }
     ensures none { IfNone result (length (fields_of text.now) ≡ 1) }
 {
     let end = field_length(text);

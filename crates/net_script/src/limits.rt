@@ -1,9 +1,9 @@
 //! The limits of the script language, each said once. This project's profile.
 
 /// The most addresses that a `G` line lists.
-pub const MAX_ADDRESSES: usize = 16;
+pub const MAX_ADDRESSES: usize = 64;
 
-/// How many fields an `A` line has, its letter counted.
+/// How many fields an `A` line has that says no profile, its letter counted. One that says a profile has one field more.
 pub const AIRCRAFT_FIELDS: usize = 4;
 
 /// How many fields an `S` line has: its letter and 26 columns.

@@ -1,6 +1,6 @@
 //! What a line of a script says.
 
-use crate::listing::Addresses;
+use crate::addresses::Addresses;
 use acars_envelope::Address;
 use adsc_requests::{Kind, Message};
 use aircraft_core::Who;
@@ -22,8 +22,13 @@ pub enum Cancel {
 pub enum ScriptLine {
     /// Who the aircraft is.
     A(Who),
-    /// The ground addresses of its links, 1 to 16, all different.
-    G(Addresses),
+    /// The ground addresses of its links.
+    G {
+        /// The addresses, 1 to 64, all different.
+        addresses: Addresses,
+        /// The place in them, counted from 0, of the one for which a connection is kept: it has the line's star.
+        reserved: Option<u8>,
+    },
     /// A flight sample.
     S(Sample),
     /// The time, from 0 to 999999999.

@@ -17,9 +17,11 @@ pub enum Code {
     Byte,
     /// The line has too few or too many fields. The value is its number of commas.
     Count,
-    /// A field has a wrong form or is out of its range. The value is the number of the first such field.
+    /// A field has a wrong form or is out of its range, or has the second star of a `G` line. The value is the number of the
+    /// first such field.
     Field,
-    /// An address stands twice in a `G` line. The value is the number of the field where one first stands again.
+    /// An address stands twice in a `G` line, stars left aside. The value is the number of the field where one first stands
+    /// again.
     Twice,
     /// The address isn't listed. The value is 1.
     Address,
@@ -58,7 +60,7 @@ pub enum LineRefusal {
         /// The value that belongs to the code.
         value: u32,
     },
-    /// Memory ran out, which may come with any line.
+    /// Memory ran out, which comes with a `G` or an `S` line alone.
     NoMemory,
 }
 

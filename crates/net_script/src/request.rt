@@ -26,7 +26,8 @@ pub(crate) fn request_of(field: &[u8]) -> Option<Message>
 /// The message of an uplink that has one.
 fn sole_message(uplink: &Uplink) -> Option<Message>
     ensures some { IfSome result (λ message. uplink.now.messages.items ≡ message ∷ []) }
-    ensures none { IfNone result ((message : MessageValue) → uplink.now.messages.items ≢ message ∷ []) }
+    ensures none { IfNone result ((message : MessageValue)
+        → uplink.now.messages.items ≢ message ∷ []) }
 {
     match uplink.messages.as_slice() {
         [message] => Some(*message),

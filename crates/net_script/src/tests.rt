@@ -5,16 +5,26 @@ use acars_envelope::{Address, Flight, Registration};
 use adsc_io::next_line;
 use adsc_requests::{Kind, Limits, Message, Moduli};
 use aircraft_core::Who;
-use flight_samples::Sample;
+use due_event::Profile;
+use flight_samples::{Sample, SampleReader};
 use std::alloc::AllocGlobal;
 use std::process::Abort;
 use std::test::Fail;
 
 /// What the first line of an input says, or why it is bad.
-fn read(rt: &(impl Abort + AllocGlobal), input: &[u8]) -> Result<ScriptLine, LineRefusal> {
+fn read(
+    rt: &(impl Abort + AllocGlobal),
+    samples: &mut SampleReader,
+    input: &[u8],
+) -> Result<ScriptLine, LineRefusal> {
     let (line, _) = next_line(input).expect(rt, "a line");
     assert!(rt; line.len() <= 4096);
-    read_script_line(rt.alloc(), line)
+    read_script_line(samples, rt.alloc(), line)
+}
+
+/// What the first line of an input says, read by itself.
+fn read_alone(rt: &(impl Abort + AllocGlobal), input: &[u8]) -> Result<ScriptLine, LineRefusal> {
+    read(rt, &mut SampleReader::new(rt.alloc()), input)
 }
 
 fn address(rt: &impl Abort, text: &[u8]) -> Address {
@@ -32,12 +42,21 @@ fn periodic(interval: Option<u8>, m: [Option<u8>; 6]) -> Message {
 
 #[test]
 fn lines_of_the_flight(rt: HostRuntime) -> Result<(), Fail> {
-    let who = Who {
-        registration: Registration::new(b"N-12").expect(&rt, "a registration"),
-        flight: Flight::new(b"AB123").expect(&rt, "a flight"),
-        airframe: 0xabcdef,
-    };
-    assert_eq!(rt; read(&rt, b"A,N-12,AB123,ABCDEF"), Ok(ScriptLine::A(who)));
+    let profiles: [(&[u8], Profile); 3] = [
+        (b"A,N-12,AB123,ABCDEF", Profile::One),
+        (b"A,N-12,AB123,ABCDEF,1", Profile::One),
+        (b"A,N-12,AB123,ABCDEF,2", Profile::Two),
+    ];
+    let mut samples = SampleReader::new(rt.alloc());
+    for (text, profile) in profiles {
+        let who = Who {
+            registration: Registration::new(b"N-12").expect(&rt, "a registration"),
+            flight: Flight::new(b"AB123").expect(&rt, "a flight"),
+            airframe: 0xabcdef,
+            profile,
+        };
+        assert_eq!(rt; read(&rt, &mut samples, text), Ok(ScriptLine::A(who)));
+    }
     let sample = Sample {
         lat: 1,
         lon: -2,
@@ -67,7 +86,7 @@ fn lines_of_the_flight(rt: HostRuntime) -> Result<(), Fail> {
         xtk: -20,
     };
     let text = b"S,1,-2,3,4,1,7,0,5,-6,7,8,9,-10,11,1,12,13,-14,0,15,16,17,1,18,-19,-20";
-    assert_eq!(rt; read(&rt, text), Ok(ScriptLine::S(sample)));
+    assert_eq!(rt; read(&rt, &mut samples, text), Ok(ScriptLine::S(sample)));
     let cases: [(&[u8], ScriptLine); 6] = [
         (b"T,0", ScriptLine::T(0)),
         (b"T,999999999\n", ScriptLine::T(999_999_999)),
@@ -77,7 +96,7 @@ fn lines_of_the_flight(rt: HostRuntime) -> Result<(), Fail> {
         (b"U,\"\r\x7f,,", ScriptLine::U { from: 2 }),
     ];
     for (text, wanted) in cases {
-        assert_eq!(rt; read(&rt, text), Ok(wanted));
+        assert_eq!(rt; read(&rt, &mut samples, text), Ok(wanted));
     }
     Ok(())
 }
@@ -86,11 +105,18 @@ fn lines_of_the_flight(rt: HostRuntime) -> Result<(), Fail> {
 fn lines_of_addresses(rt: HostRuntime) -> Result<(), Fail> {
     let one = address(&rt, b"GRND001");
     let two = address(&rt, b"0000000");
-    let both = [one, two].to_vec(rt.alloc())?;
-    assert_eq!(rt;
-        read(&rt, b"G,GRND001,0000000"),
-        Ok(ScriptLine::G(Addresses::new(both)))
-    );
+    let lists: [(&[u8], Option<u8>); 3] = [
+        (b"G,GRND001,0000000", None),
+        (b"G,GRND001*,0000000", Some(0)),
+        (b"G,GRND001,0000000*", Some(1)),
+    ];
+    for (text, reserved) in lists {
+        let wanted = ScriptLine::G {
+            addresses: Addresses::new([one, two].to_vec(rt.alloc())?),
+            reserved,
+        };
+        assert_eq!(rt; read_alone(&rt, text), Ok(wanted));
+    }
     let limits = Limits {
         lateral: Some(0x10),
         vrate: None,
@@ -133,10 +159,10 @@ fn lines_of_addresses(rt: HostRuntime) -> Result<(), Fail> {
         (b"R,0000000,999999999", ScriptLine::R(two, 999_999_999)),
     ];
     for (text, wanted) in cases {
-        assert_eq!(rt; read(&rt, text), Ok(wanted));
+        assert_eq!(rt; read_alone(&rt, text), Ok(wanted));
     }
     assert_eq!(rt;
-        read(&rt, b"K,GRND001,A"),
+        read_alone(&rt, b"K,GRND001,A"),
         Ok(ScriptLine::K(one, Cancel::All))
     );
     Ok(())
@@ -149,7 +175,7 @@ fn bad_lines(rt: &(impl Abort + AllocGlobal), code: Code, cases: &[(&'static [u8
             code,
             value: *value,
         };
-        assert_eq!(rt; read(rt, text), Err(wanted));
+        assert_eq!(rt; read_alone(rt, text), Err(wanted));
     }
 }
 
@@ -187,9 +213,12 @@ fn bad_letters_bytes_and_counts(rt: HostRuntime) {
         &[
             (b"A", 0),
             (b"A,N1,F1", 2),
-            (b"A,N1,F1,000000,", 4),
+            (b"A,N1,F1,000000,1,", 5),
             (b"G", 0),
-            (b"G,,,,,,,,,,,,,,,,,", 17),
+            (
+                b"G,,,,,,,,,,,,,,,,,,,,,,,,,,,,,,,,,,,,,,,,,,,,,,,,,,,,,,,,,,,,,,,,,",
+                65,
+            ),
             (b"S", 0),
             (b"S,", 1),
             (b"S,,,,,,,,,,,,,,,,,,,,,,,,,,,", 27),
@@ -221,10 +250,23 @@ fn bad_fields(rt: HostRuntime) {
             (b"A,N1,F1,00000", 3),
             (b"A,N1,F1,0000000", 3),
             (b"A,N1,F1,abcdef", 3),
+            (b"A,N1,F1,000000,", 4),
+            (b"A,N1,F1,000000,3", 4),
+            (b"A,N1,F1,000000,01", 4),
+            (b"A,N1,F1,00000,3", 3),
             (b"G,", 1),
             (b"G,GRND001,", 2),
             (b"G,GRND001,GRND001,grnd002", 3),
-            (b"G,,,,,,,,,,,,,,,,", 1),
+            (
+                b"G,,,,,,,,,,,,,,,,,,,,,,,,,,,,,,,,,,,,,,,,,,,,,,,,,,,,,,,,,,,,,,,,",
+                1,
+            ),
+            (b"G,*", 1),
+            (b"G,*GRND001", 1),
+            (b"G,GRND001**", 1),
+            (b"G,GRND00*", 1),
+            (b"G,GRND001*,GRND002*", 2),
+            (b"G,GRND001,GRND001*,GRND002*", 3),
             (b"S,0,0,0,0,2,0,0,0,0,0,0,0,0,0,0,0,0,0,0,0,0,0,0,0,0,-0", 5),
             (
                 b"S,0,0,0,0,0,0,0,0,0,0,0,0,0,0,0,0,0,0,0,0,0,0,0,0,0,-0",
@@ -282,6 +324,8 @@ fn addresses_that_stand_twice(rt: HostRuntime) {
         Code::Twice,
         &[
             (b"G,GRND001,GRND001", 2),
+            (b"G,GRND001*,GRND001", 2),
+            (b"G,GRND001,GRND002,GRND001*", 3),
             (b"G,GRND001,GRND002,GRND002,GRND001", 3),
             (b"G,GRND001,GRND002,GRND003,GRND001", 4),
         ],

@@ -1,15 +1,16 @@
-//! The numbers, switches and cancels in a line.
+//! The numbers, switches, cancels and profiles in a line.
 
 ghost use Rattle.std.specs.Prelude.{◌≡◌, ℕ, IfSome, IfNone, codes, if◌then◌else◌};
-ghost use Rattle.net_script.specs.Forms.{HasForm, IsCancelText, IsNumberOf, a_cancel, a_place, a_switch, a_time};
+ghost use Rattle.net_script.specs.Forms.{HasForm, IsCancelText, IsNumberOf, IsProfileText, a_cancel, a_place, a_profile, a_switch, a_time};
 
 use crate::limits::{MAX_PLACE, MAX_TIME};
 use crate::line::Cancel;
 use adsc_requests::Kind;
+use due_event::Profile;
 use flight_samples::decimal::read_natural;
 
 /// The natural number from `low` to `high` that the field writes.
-fn number_of(field: &[u8], low: u32, high: u32) -> Option<u32>
+fn natural_of(field: &[u8], low: u32, high: u32) -> Option<u32>
     ensures some { IfSome result (λ number. IsNumberOf low high number field.now) }
     ensures none { IfNone result ((number : ℕ) → ¬ IsNumberOf low high number field.now) }
 {
@@ -24,7 +25,7 @@ pub(crate) fn time_of(field: &[u8]) -> Option<u32>
     ensures some { IfSome result (λ time. IsNumberOf 0 MAX_TIME time field.now) }
     ensures none { IfNone result (¬ HasForm a_time field.now) }
 {
-    number_of(field, 0, MAX_TIME)
+    natural_of(field, 0, MAX_TIME)
 }
 
 /// The place in a list of messages that the field writes.
@@ -32,7 +33,7 @@ pub(crate) fn place_of(field: &[u8]) -> Option<u32>
     ensures some { IfSome result (λ place. IsNumberOf 1 MAX_PLACE place field.now) }
     ensures none { IfNone result (¬ HasForm a_place field.now) }
 {
-    number_of(field, 1, MAX_PLACE)
+    natural_of(field, 1, MAX_PLACE)
 }
 
 /// Whether the field switches on or off.
@@ -43,6 +44,18 @@ pub(crate) fn switch_of(field: &[u8]) -> Option<bool>
     match field {
         [b'1'] => Some(true),
         [b'0'] => Some(false),
+        _ => None,
+    }
+}
+
+/// The profile that the field names.
+pub(crate) fn profile_of(field: &[u8]) -> Option<Profile>
+    ensures some { IfSome result (λ profile. IsProfileText profile field.now) }
+    ensures none { IfNone result (¬ HasForm a_profile field.now) }
+{
+    match field {
+        [b'1'] => Some(Profile::One),
+        [b'2'] => Some(Profile::Two),
         _ => None,
     }
 }

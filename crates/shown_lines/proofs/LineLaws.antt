@@ -1,9 +1,8 @@
 -- The laws of what one line means, layer by layer: what holds of the answer of a layer holds of the answer of the layer above.
-use Rattle.std.proofs.Common.{◌≡◌, Bool, false, IsTrue, ℕ, ◌<◌, ◌≤◌, List, length, drop, slice_index, Result, Ok, Err, inl, inr, refl, sym, ap, ◌∙◌, subst, arith}
-use Rattle.std.proofs.lemmas.Bool.{cases_lt}
-use Rattle.adsc_io.specs.Limits.{max_line_bytes}
+use Rattle.std.proofs.Common.{◌≡◌, ℕ, ◌<◌, ◌≤◌, List, [], length, drop, slice_index, Result, Ok, Err, inl, inr, refl, sym, ap, ◌∙◌, subst, arith}
+use Rattle.adsc_io.specs.declared.limits.TheConstants.{MAX_LINE_BYTES}
 use Rattle.acars_envelope.specs.declared.texts.Body.{Body}
-use Rattle.acars_envelope.specs.declared.texts.Body.TheVariants.{Ads}
+use Rattle.acars_envelope.specs.declared.texts.Body.TheVariants.{Ads, Afn}
 use Rattle.acars_envelope.specs.declared.texts.Envelope.{Envelope}
 use Rattle.acars_envelope.specs.declared.refusal.EnvelopeRefusal.{EnvelopeRefusal}
 use Rattle.acars_envelope.specs.Faults.{IsFirstEnvelopeFault}
@@ -12,8 +11,12 @@ use Rattle.arrayvec.specs.ArrayVec.{ArrayVec}
 use Rattle.shown_lines.specs.declared.direction.Direction.{Direction}
 use Rattle.shown_lines.specs.declared.direction.Direction.TheVariants.{Up, Down}
 use Rattle.shown_lines.specs.declared.refusal.TextRefusal.TheVariants as refusal
-use Rattle.shown_lines.specs.Meanings.{Meaning, letter_of, IsLineOf, BeginsWith, CarriesText, PayloadMeans, BodyMeans, TextMeans, Means, IsMeaning}
-use Rattle.shown_lines.specs.Meanings.Meaning.{refused}
+use Rattle.shown_lines.specs.Meanings.{Meaning, letter_of, IsLineOf, BeginsWith, CarriesText, PayloadMeans, BodyMeans, TextMeans, Means}
+use Rattle.shown_lines.specs.Meanings.Meaning.{refused, not_built}
+use Rattle.shown_lines.specs.Shown.{IsShown, IsShownAs}
+use Rattle.shown_lines.specs.Texts.{line_text}
+use Rattle.shown_lines.specs.declared.show.LineShown.{LineShown}
+use Rattle.shown_lines.specs.declared.show.LineShown.TheVariants.{Refused, NotBuilt}
 
 -- an answer has one value, or one fault, and not both
 pub same_value : {T E : Type 0} (answer : Result T E) (a b : T) → answer ≡ Ok a → answer ≡ Ok b → a ≡ b
@@ -25,14 +28,8 @@ same_fault answer a b first second = cc
 pub not_both : {T E : Type 0} (answer : Result T E) (value : T) (fault : E) → answer ≡ Ok value → answer ≡ Err fault → ⊥
 not_both answer value fault ok err = cc
 
--- what an ADS body means is what its payload means
-pub payload_in_body : (direction : Direction) (address registration payload : List ℕ) (body : Body) (held : ArrayVec ℕ) (meaning : Meaning) → body ≡ Ads registration held → payload ≡ held.items
-    → BodyMeans direction address body meaning → PayloadMeans direction address registration payload meaning
-payload_in_body direction address registration payload body held meaning is same means =
-    subst (λ octets. PayloadMeans direction address registration octets meaning) (sym same) (subst (λ b. BodyMeans direction address b meaning) is means)
-
 -- a text that is an envelope's means what the envelope's body does
-pub means_its_body : (direction : Direction) (text : List ℕ) (answer : Result Envelope EnvelopeRefusal) (envelope : Envelope) (shown : Meaning) → answer ≡ Ok envelope
+means_its_body : (direction : Direction) (text : List ℕ) (answer : Result Envelope EnvelopeRefusal) (envelope : Envelope) (shown : Meaning) → answer ≡ Ok envelope
     → ((e : Envelope) → IsEnvelopeText e text → answer ≡ Ok e) → ((fault : EnvelopeRefusal) → IsFirstEnvelopeFault text fault → answer ≡ Err fault)
     → ((other : Meaning) → BodyMeans direction envelope.address envelope.body other → other ≡ shown)
     → (other : Meaning) → TextMeans direction text other → other ≡ shown
@@ -47,19 +44,10 @@ pub means_its_fault : (direction : Direction) (text : List ℕ) (answer : Result
 means_its_fault direction text answer fault is none first other (inl wrong) = wrong.2 ∙ ap (λ r. refused (refusal.Envelope r)) (same_fault answer wrong.0 fault (first wrong.0 wrong.1) is)
 means_its_fault direction text answer fault is none first other (inr carried) = absurd (none carried.0 carried.1)
 
--- a line that isn't too long has 4,096 bytes at most
-pub is_short : (line : List ℕ) (test : Bool) → test ≡ false → (max_line_bytes < length line → IsTrue test) → length line ≤ max_line_bytes
-is_short line test not_long told = elim (cases_lt max_line_bytes (length line)) [
-  | inl long ↦ absurd (both test not_long (told long))
-  | inr within ↦ within
-]
-  where
-    both : (test : Bool) → test ≡ false → IsTrue test → ⊥
-    both test is passes = cc
-
 -- a line of more than 4,096 bytes is too long, and means nothing else
-pub is_long : (line : List ℕ) → max_line_bytes < length line → IsMeaning line (refused refusal.Long)
-is_long line long = record { means = inl (long, refl); only = alone }
+pub long_is_shown : (number : ℕ) (line text : List ℕ) (way : LineShown) → MAX_LINE_BYTES < length line → text ≡ line_text number (refused refusal.Long) → way ≡ Refused
+    → IsShown number line text way
+long_is_shown number line text way long spelled shown = record { meaning = refused refusal.Long; means = inl (long, refl); only = alone; shown = shown; spelled = spelled }
   where
     alone : (other : Meaning) → Means line other → other ≡ refused refusal.Long
     alone other (inl same) = same.1
@@ -67,9 +55,9 @@ is_long line long = record { means = inl (long, refl); only = alone }
     alone other (inr (inr carried)) = absurd (omega (arith, long, carried.0))
 
 -- a line that isn't too long and begins with no letter of a direction is of no known form, and means nothing else
-pub is_form : (line : List ℕ) → length line ≤ max_line_bytes → ((direction : Direction) → BeginsWith (letter_of direction) line → ⊥)
-    → IsMeaning line (refused refusal.Form)
-is_form line short none = record { means = inr (inl (short, none, refl)); only = alone }
+pub form_is_shown : (number : ℕ) (line text : List ℕ) (way : LineShown) → length line ≤ MAX_LINE_BYTES → ((direction : Direction) → BeginsWith (letter_of direction) line → ⊥)
+    → text ≡ line_text number (refused refusal.Form) → way ≡ Refused → IsShown number line text way
+form_is_shown number line text way short none spelled shown = record { meaning = refused refusal.Form; means = inr (inl (short, none, refl)); only = alone; shown = shown; spelled = spelled }
   where
     alone : (other : Meaning) → Means line other → other ≡ refused refusal.Form
     alone other (inl long) = absurd (omega (arith, short, long.0))
@@ -84,12 +72,45 @@ same_text line text Down Down other spelled carried = subst (λ t. TextMeans Dow
 same_text line text Up Down other spelled carried = absurd (omega (arith, ap (λ l. slice_index l 0) (sym carried.1 ∙ spelled)))
 same_text line text Down Up other spelled carried = absurd (omega (arith, ap (λ l. slice_index l 0) (sym carried.1 ∙ spelled)))
 
--- a line that isn't too long means what the text behind its letter does, and nothing else
-pub is_text : (direction : Direction) (line text : List ℕ) (shown : Meaning) → length line ≤ max_line_bytes → IsLineOf (letter_of direction) line text
-    → TextMeans direction text shown → ((other : Meaning) → TextMeans direction text other → other ≡ shown) → IsMeaning line shown
-is_text direction line text shown short spelled means only = record { means = inr (inr (short, (direction, (text, spelled, means)))); only = alone }
+-- a line that isn't too long is shown as the text behind its letter
+pub text_is_shown : (number : ℕ) (direction : Direction) (line text shown : List ℕ) (way : LineShown) → length line ≤ MAX_LINE_BYTES → IsLineOf (letter_of direction) line text
+    → IsShownAs number (TextMeans direction text) shown way → IsShown number line shown way
+text_is_shown number direction line text shown way short spelled said = record {
+  meaning = said.meaning;
+  means = inr (inr (short, (direction, (text, spelled, said.means))));
+  only = alone;
+  shown = said.shown;
+  spelled = said.spelled;
+}
   where
-    alone : (other : Meaning) → Means line other → other ≡ shown
+    alone : (other : Meaning) → Means line other → other ≡ said.meaning
     alone other (inl long) = absurd (omega (arith, short, long.0))
     alone other (inr (inl form)) = absurd (form.1 direction (text, spelled))
-    alone other (inr (inr carried)) = only other (same_text line text direction carried.1.0 other spelled carried.1.1)
+    alone other (inr (inr carried)) = said.only other (same_text line text direction carried.1.0 other spelled carried.1.1)
+
+-- a payload is shown as the body that carries it
+pub body_is_shown : (number : ℕ) (direction : Direction) (address registration payload text : List ℕ) (body : Body) (held : ArrayVec ℕ) (way : LineShown) → body ≡ Ads registration held
+    → payload ≡ held.items → IsShownAs number (PayloadMeans direction address registration payload) text way → IsShownAs number (BodyMeans direction address body) text way
+body_is_shown number direction address registration payload text body held way is same said =
+    subst (λ (b : Body). IsShownAs number (BodyMeans direction address b) text way) (sym is)
+    (subst (λ octets. IsShownAs number (PayloadMeans direction address registration octets) text way) same said)
+
+-- a text that is an envelope's is shown as the envelope's body
+pub envelope_is_shown : (number : ℕ) (direction : Direction) (text shown : List ℕ) (answer : Result Envelope EnvelopeRefusal) (envelope : Envelope) (way : LineShown) → answer ≡ Ok envelope
+    → IsEnvelopeText envelope text → ((e : Envelope) → IsEnvelopeText e text → answer ≡ Ok e) → ((fault : EnvelopeRefusal) → IsFirstEnvelopeFault text fault → answer ≡ Err fault)
+    → IsShownAs number (BodyMeans direction envelope.address envelope.body) shown way → IsShownAs number (TextMeans direction text) shown way
+envelope_is_shown number direction text shown answer envelope way is found right first said = record {
+  meaning = said.meaning;
+  means = inr (envelope, found, said.means);
+  only = means_its_body direction text answer envelope said.meaning is right first said.only;
+  shown = said.shown;
+  spelled = said.spelled;
+}
+
+-- a text of the application AFN isn't shown yet
+pub unbuilt_is_shown : (number : ℕ) (direction : Direction) (address text : List ℕ) (body : Body) (held : ArrayVec ℕ) → body ≡ Afn held → text ≡ []
+    → IsShownAs number (BodyMeans direction address body) text NotBuilt
+unfolding line_text
+unbuilt_is_shown number direction address text body held is none =
+    subst (λ (b : Body). IsShownAs number (BodyMeans direction address b) text NotBuilt) (sym is)
+    (record { meaning = not_built; means = refl; only = λ other same. same; shown = refl; spelled = none })

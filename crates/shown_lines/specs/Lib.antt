@@ -1,5 +1,4 @@
 pub mod Fields
-pub mod LineView
 pub mod Meanings
 pub mod Shown
 pub mod Texts

@@ -1,7 +1,8 @@
--- What a line of texts means: an uplink of ADS messages, a downlink of ADS items, or what is wrong with it first (this project's profile).
+-- What a line of texts means: an uplink of ADS messages, a downlink of ADS items, or what is wrong with it first (this
+-- project's profile).
 use Rattle.std.specs.Prelude.{◌≡◌, ℕ, ◌<◌, ◌≤◌, ◌⊎◌, Bool, true, false, List, [], ◌∷◌, ◌++◌, length, codes}
 use Rattle.bit_terms.specs.Octets.{octets_bits}
-use Rattle.adsc_io.specs.Limits.{max_line_bytes}
+use Rattle.adsc_io.specs.declared.limits.TheConstants.{MAX_LINE_BYTES}
 use Rattle.acars_envelope.specs.declared.texts.Body.{Body}
 use Rattle.acars_envelope.specs.declared.texts.Body.TheVariants.{Ads, Afn}
 use Rattle.acars_envelope.specs.declared.texts.Envelope.{Envelope}
@@ -21,8 +22,8 @@ use Rattle.shown_lines.specs.declared.direction.Direction.TheVariants.{Up, Down}
 use Rattle.shown_lines.specs.declared.refusal.TextRefusal.{TextRefusal}
 use Rattle.shown_lines.specs.declared.refusal.TextRefusal.TheVariants as refusal
 
--- A meaning: what a downlink says is plain data, and what an uplink asks is a value of its type. Lines of forms that are not built yet have no other
--- meaning than that.
+-- A meaning: what a downlink says is plain data, and what an uplink asks is a value of its type. Lines of forms that are
+-- not built yet have no other meaning than that.
 pub data Meaning : Type 0 where
   uplink : (address registration : List ℕ) (asked : Uplink) → Meaning
   downlink : (address registration : List ℕ) (items : List ItemData) → Meaning
@@ -61,7 +62,7 @@ TextMeans direction text meaning =
 
 -- ---- what a line means
 
--- the letter that says which way a text goes
+-- The letter that says which way a text goes.
 abbrev pub letter_of : Direction → List ℕ
 letter_of Up = codes "U"
 letter_of Down = codes "D"
@@ -81,16 +82,16 @@ CarriesText direction line meaning = (text : List ℕ) × IsLineOf (letter_of di
 -- What a line means: too long, of no known form, or what its text means.
 abbrev pub Means : List ℕ → Meaning → Type 0
 Means line meaning =
-    ((max_line_bytes < length line) × (meaning ≡ refused refusal.Long))
-    ⊎ ((length line ≤ max_line_bytes) × ((direction : Direction) → BeginsWith (letter_of direction) line → ⊥) × (meaning ≡ refused refusal.Form))
-    ⊎ ((length line ≤ max_line_bytes) × ((direction : Direction) × CarriesText direction line meaning))
+    ((MAX_LINE_BYTES < length line) × (meaning ≡ refused refusal.Long))
+    ⊎ ((length line ≤ MAX_LINE_BYTES) × ((direction : Direction) → BeginsWith (letter_of direction) line → ⊥) × (meaning ≡ refused refusal.Form))
+    ⊎ ((length line ≤ MAX_LINE_BYTES) × ((direction : Direction) × CarriesText direction line meaning))
 
 -- The line means this, and nothing else.
 pub record IsMeaning (line : List ℕ) (meaning : Meaning) : Type 0 where
   pub means : Means line meaning
   pub only : (other : Meaning) → Means line other → other ≡ meaning
 
--- the meaning is a refusal
+-- The meaning is a refusal.
 abbrev pub is_refusal : Meaning → Bool
 is_refusal (uplink address registration asked) = false
 is_refusal (downlink address registration items) = false
@@ -113,10 +114,10 @@ pub record HasMeaning (Passes : Meaning → Type 0) (lines : List (List ℕ)) : 
   pub means : Means line meaning
   pub passes : Passes meaning
 
--- some line is refused
+-- Some line is refused.
 abbrev pub HasRefused : List (List ℕ) → Type 0
 HasRefused lines = HasMeaning (λ meaning. is_refusal meaning ≡ true) lines
 
--- some line is of a form that is not built yet: its text is of the application AFN
+-- Some line is of a form that is not built yet: its text is of the application AFN.
 abbrev pub HasUnbuilt : List (List ℕ) → Type 0
 HasUnbuilt lines = HasMeaning (λ meaning. meaning ≡ not_built) lines

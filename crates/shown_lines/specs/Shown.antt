@@ -1,13 +1,44 @@
--- The shown text of an input (this project's profile).
-use Rattle.std.specs.Prelude.{◌≡◌, ◌≢◌, ℕ, ◌+◌, List, [], ◌∷◌, ◌++◌, length, if◌then◌else◌}
+-- The shown text of lines and of an input (this project's profile).
+use Rattle.std.specs.Prelude.{◌≡◌, ◌≢◌, ℕ, ◌+◌, List, [], ◌∷◌, ◌++◌, length, take, if◌then◌else◌}
 use Rattle.std.specs.List.{All}
 use Rattle.adsc_io.specs.Lines.{script_lines}
 use Rattle.adsc_io.specs.Inputs.{IsOverLimit, lines_before_limit}
-use Rattle.shown_lines.specs.Meanings.{Meaning, IsMeaning, AreMeanings, is_refusal}
-use Rattle.shown_lines.specs.Meanings.Meaning.{not_built}
+use Rattle.shown_lines.specs.declared.show.LineShown.{LineShown}
+use Rattle.shown_lines.specs.declared.show.LineShown.TheVariants.{Right, Refused, NotBuilt}
+use Rattle.shown_lines.specs.Meanings.{Meaning, Means, AreMeanings, is_refusal}
+use Rattle.shown_lines.specs.Meanings.Meaning.{uplink, downlink, refused, not_built}
 use Rattle.shown_lines.specs.Texts.{line_text, lines_text, end_text}
 
--- how many of these meanings are refusals
+-- ---- one line
+
+-- How a line of this meaning is shown.
+abbrev pub way_shown : Meaning → LineShown
+way_shown (uplink address registration asked) = Right
+way_shown (downlink address registration items) = Right
+way_shown (refused fault) = Refused
+way_shown not_built = NotBuilt
+
+-- How many lines are refused that are shown so.
+abbrev pub refusals : LineShown → ℕ
+refusals Right = 0
+refusals Refused = 1
+refusals NotBuilt = 0
+
+-- What has one meaning, by this rule, is shown as the line of this number.
+pub record IsShownAs (number : ℕ) (IsMeant : Meaning → Type 0) (text : List ℕ) (way : LineShown) : Type 0 where
+  pub meaning : Meaning
+  pub means : IsMeant meaning
+  pub only : (other : Meaning) → IsMeant other → other ≡ meaning
+  pub shown : way ≡ way_shown meaning
+  pub spelled : text ≡ line_text number meaning
+
+-- The line of this number is shown as what it means.
+abbrev pub IsShown : ℕ → List ℕ → List ℕ → LineShown → Type 0
+IsShown number line text way = IsShownAs number (Means line) text way
+
+-- ---- lines
+
+-- How many of these meanings are refusals.
 abbrev pub refusal_count : List Meaning → ℕ
 refusal_count [] = 0
 refusal_count (meaning ∷ meanings) = (if is_refusal meaning then 1 else 0) + refusal_count meanings
@@ -20,13 +51,7 @@ pub record AreShown (lines : List (List ℕ)) (text : List ℕ) (refused : ℕ) 
   pub counted : refused ≡ refusal_count meanings
   pub spelled : text ≡ lines_text 1 meanings
 
--- The line of this number was added to the text of those before it: it is built, and it is counted where it is refused.
-pub record IsLineAdded (number : ℕ) (line before now : List ℕ) (refused_before refused_now : ℕ) : Type 0 where
-  pub meaning : Meaning
-  pub is : IsMeaning line meaning
-  pub built : meaning ≢ not_built
-  pub counted : refused_now ≡ (if is_refusal meaning then 1 else 0) + refused_before
-  pub spelled : now ≡ before ++ line_text number meaning
+-- ---- an input
 
 -- The text is the shown text of an input within the limit: its lines are shown, and then comes the line that ends the text.
 pub record IsShownWhole (bytes text : List ℕ) (refused : ℕ) : Type 0 where
@@ -40,3 +65,19 @@ pub record IsShownCut (bytes text : List ℕ) : Type 0 where
   pub over : IsOverLimit bytes
   pub refused : ℕ
   pub shown : AreShown (lines_before_limit bytes) text refused
+
+-- The text shows the first lines of an input, as many as may be, but none behind its limit.
+pub record IsShownFront (bytes text : List ℕ) : Type 0 where
+  pub count : ℕ
+  pub refused : ℕ
+  pub shown : AreShown (take count (lines_before_limit bytes)) text refused
+
+-- The text shows the lines of an input before the first one that is not built, which stands before the limit.
+pub record IsShownUnbuilt (bytes text : List ℕ) : Type 0 where
+  pub before : List (List ℕ)
+  pub line : List ℕ
+  pub behind : List (List ℕ)
+  pub joined : lines_before_limit bytes ≡ before ++ line ∷ behind
+  pub means : Means line not_built
+  pub refused : ℕ
+  pub shown : AreShown before text refused

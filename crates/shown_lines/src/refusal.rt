@@ -1,7 +1,12 @@
-//! Why a line is refused.
+//! Why a line is refused, and how that is shown.
+ghost use Rattle.std.specs.Prelude.{◌≡◌, ◌+◌, ◌≤◌, ◌++◌, length};
+ghost use Rattle.shown_lines.specs.Texts.{payload_code, refusal_fields, refusal_text};
+ghost use Rattle.shown_lines.specs.declared.room.TheConstants.{LINE_ROOM};
 
+use crate::room::ShownText;
 use acars_envelope::EnvelopeRefusal;
-use adsc_downlink::DownRefusal;
+use adsc_downlink::{DownRefusal, DownWhy};
+use adsc_io::MAX_LINE_BYTES;
 use adsc_requests::Refusal;
 
 /// What is wrong with a line of texts. This project's profile.
@@ -17,4 +22,52 @@ pub enum TextRefusal {
     Request(Refusal),
     /// The payload of the envelope is no downlink: its first fault.
     Payload(DownRefusal),
+}
+
+/// Appends the line of a refusal, with the number of the line that is refused.
+#[tactic(auto, unfolding(crate::specs::Texts::refusal_text))]
+pub(crate) fn append_refusal(out: &mut ShownText, number: u32, refusal: &TextRefusal)
+    requires { length out.old + 55 ≤ LINE_ROOM }
+    ensures text { out.new ≡ out.old ++ refusal_text number refusal.now }
+{
+    out.append(b"line");
+    out.append_number(number);
+    out.append(b",refused,");
+    append_refusal_fields(out, refusal);
+    out.append(b"\n");
+}
+
+/// Appends the code of a refusal and what stands behind it.
+fn append_refusal_fields(out: &mut ShownText, refusal: &TextRefusal)
+    requires { length out.old + 30 ≤ LINE_ROOM }
+    ensures text { out.new ≡ out.old ++ refusal_fields refusal.now }
+    ensures size { length out.new ≤ length out.old + 30 }
+{
+    match refusal {
+        TextRefusal::Long => {
+            out.append(b"LONG");
+            out.append_number(MAX_LINE_BYTES as u32);
+        }
+        TextRefusal::Form => out.append(b"FORM,0"),
+        TextRefusal::Envelope(fault) => out.append_envelope_fault(fault),
+        TextRefusal::Request(fault) => out.append_request_fault(fault),
+        TextRefusal::Payload(fault) => {
+            append_payload_code(out, fault.why);
+            out.append_number(fault.bit);
+        }
+    }
+}
+
+/// Appends the code of a payload's fault.
+fn append_payload_code(out: &mut ShownText, why: DownWhy)
+    requires { length out.old + 10 ≤ LINE_ROOM }
+    ensures text { out.new ≡ out.old ++ payload_code why }
+    ensures size { length out.new ≤ length out.old + 10 }
+{
+    match why {
+        DownWhy::Short => out.append(b"BITS-SHORT"),
+        DownWhy::Tag => out.append(b"BITS-TAG"),
+        DownWhy::Value => out.append(b"BITS-VALUE"),
+        DownWhy::Many => out.append(b"BITS-MANY"),
+    }
 }

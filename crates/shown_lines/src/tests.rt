@@ -1,15 +1,32 @@
 //! Whole inputs and what is shown for them. The texts were made by another program, from the tables of the formats.
 use super::*;
+use adsc_io::{Line, LineReader, SteadySource};
 use std::alloc::Global;
 use std::test::Fail;
 
-/// What is shown for an input within the limit, or nothing where a line is not built.
+/// What is shown for an input of fewer than 100 lines: its shown text, or what is shown before a line that is not built.
 fn text_of(alloc: Global, bytes: &[u8]) -> Result<Vec<u8>, Fail> {
-    let Some(shown) = show_lines(alloc, bytes)? else {
-        return Ok(Vec::new(alloc));
-    };
-    let mut text = shown.text;
-    append_end(&mut text, shown.lines, shown.refused)?;
+    let mut source = SteadySource::new(alloc, bytes, 1_000)?;
+    let mut reader = LineReader::new(alloc)?;
+    let mut shown = ShownText::new(alloc)?;
+    let mut text = Vec::new(alloc);
+    let mut refused = 0u32;
+    for _ in 0..100 {
+        let way = match reader.next(&mut source) {
+            Ok(Line::Text) => shown.show_line(reader.number(), reader.text()),
+            Ok(Line::TooLong) => shown.show_long(reader.number()),
+            _ => break,
+        };
+        if way == LineShown::NotBuilt {
+            return Ok(text);
+        }
+        if way == LineShown::Refused {
+            refused = refused.saturating_add(1);
+        }
+        text.extend_from_slice(shown.bytes())?;
+    }
+    shown.show_end(reader.number(), refused);
+    text.extend_from_slice(shown.bytes())?;
     Ok(text)
 }
 
@@ -69,7 +86,7 @@ fn each_kind_of_line(rt: HostRuntime) -> Result<(), Fail> {
         ),
         (
             "hello\nU,/AKLCDYA.AFN/FMHANZ1,.N12345/FAK0/FARADS,05087\n",
-            "",
+            "line,1,refused,FORM,0\n",
         ),
         ("D,/GRND001.AFN/FMHANZ1,.N12345/FAK0/FARADS,05087\n", ""),
         (

@@ -1,10 +1,12 @@
 //! Encoding and decoding of the basic data.
 
-ghost use Rattle.std.specs.Prelude.{◌≡◌, ℕ, ◌+◌, ◌≤◌, ◌↔◌, ℤ, Bool, List, ◌++◌, length, IfOk, IsOkAnd, IsErrAnd, OnErr};
-ghost use Rattle.bit_terms.specs.Reading.{Gives};
-ghost use Rattle.adsc_groups.specs.Fields.{Encodes, FitFields, WereRead, IsFirstCut, fields_at};
-ghost use Rattle.adsc_groups.specs.Basic.{BasicData, basic_bits, basic_fields, basic_values};
-ghost use Rattle.adsc_groups.specs.BasicView.{basic_data};
+ghost use Rattle.std.specs.Prelude.{◌≡◌, ◌+◌, ◌≤◌, ◌↔◌, ◌++◌, length, Ok, Err, OnErr};
+ghost use Rattle.bit_terms.specs.Reading.{Gives, Unread};
+ghost use Rattle.adsc_bits.specs.declared.reader.Short.{Short as ShortValue};
+ghost use Rattle.adsc_groups.specs.Fields.{Encodes, WereRead, IsFirstCut, fields_at};
+ghost use Rattle.adsc_groups.specs.Basic.{basic_bits, basic_fields};
+ghost use Rattle.adsc_groups.specs.BasicView.{basic_data, values_of};
+ghost use Rattle.adsc_groups.specs.declared.basic.Basic.{Basic as BasicValue};
 
 use crate::basic::Basic;
 use adsc_bits::{BitReader, BitWriter, Short};
@@ -17,6 +19,9 @@ pub fn encode_basic(basic: &Basic, out: &mut BitWriter)
     requires { length out.old + 80 ≤ 2040 }
     ensures bits { out.new ≡ out.old ++ basic_bits (basic_data basic.now) }
     ensures len { length out.new ≡ length out.old + 80 }
+    // It is an encoding of the data, so reading it gives the data back.
+    ensures encodes { Encodes basic_fields (values_of basic.now)
+        (basic_bits (basic_data basic.now)) }
 {
     out.put_signed(basic.lat, 21);
     out.put_signed(basic.lon, 21);
@@ -34,29 +39,26 @@ pub fn encode_basic(basic: &Basic, out: &mut BitWriter)
 ///
 /// # Errors
 ///
-/// `Short` exactly where a field isn't wholly there, at its first bit; padding is a field too. The reader does not move then.
+/// `Short` exactly where a field isn't wholly there, at its first bit; padding is a field too. The
+/// reader does not move then.
 pub fn decode_basic(from: &mut BitReader) -> Result<Basic, Short>
-    // What is read is encoded so, and what is encoded so is read.
-    ensures found { IfOk result (λ b. WereRead basic_fields (basic_values (basic_data b)) from.old from.new) }
-    ensures only { (values : List ℤ) (bits rest : List Bool) → Encodes basic_fields values bits → from.old.left ≡ bits ++ rest
-        → IsOkAnd result (λ b. basic_values (basic_data b) ≡ values) × (from.new.left ≡ rest) }
-    ensures written { (basic : BasicData) (rest : List Bool) → FitFields basic_fields (basic_values basic)
-        → from.old.left ≡ basic_bits basic ++ rest
-        → IsOkAnd result (λ b. basic_data b ≡ basic) × (from.new.left ≡ rest) }
-
-    // A refusal is at the first field that is cut.
-    ensures short { (bit : ℕ) → IsErrAnd result (λ e. e.bit ≡ bit) ↔ IsFirstCut basic_fields from.old bit }
+    // The data is answered exactly where an encoding of it stands next, and this is left behind it.
+    ensures read { (basic : BasicValue) (left : Unread) → ((result ≡ Ok basic) × (from.new ≡ left))
+        ↔ WereRead basic_fields (values_of basic) from.old left }
+    // It is refused exactly where what is left is cut short, at the first field that is cut.
+    ensures short { (refusal : ShortValue) → (result ≡ Err refusal)
+        ↔ IsFirstCut basic_fields from.old refusal.bit }
     ensures unmoved { OnErr result (from.new ≡ from.old) }
-
-    // All of this as one function of what is left.
-    ensures gives { Gives (λ b. basic_values (basic_data b)) (λ e. e.bit) result from.new (fields_at basic_fields from.old) }
+    // This one joins the crates: all of it as a function of what is left, by which decoders above
+    // are proved.
+    ensures gives { Gives values_of (λ e. e.bit) result from.new (fields_at basic_fields from.old) }
 {
     basic_from(from)
 }
 
 // Reads with a second reader, so that a refusal leaves the first where it stands.
 fn basic_from(from: &mut BitReader) -> Result<Basic, Short>
-    ensures gives { Gives (λ b. basic_values (basic_data b)) (λ e. e.bit) result from.new (fields_at basic_fields from.old) }
+    ensures gives { Gives values_of (λ e. e.bit) result from.new (fields_at basic_fields from.old) }
     ensures unmoved { OnErr result (from.new ≡ from.old) }
 {
     let mut ahead = from.fork();
@@ -67,7 +69,7 @@ fn basic_from(from: &mut BitReader) -> Result<Basic, Short>
 
 #[tactic(auto, unfolding(crate::specs::Fields::fields_at))]
 fn basic_ahead(from: &mut BitReader) -> Result<Basic, Short>
-    ensures { Gives (λ b. basic_values (basic_data b)) (λ e. e.bit) result from.new (fields_at basic_fields from.old) }
+    ensures { Gives values_of (λ e. e.bit) result from.new (fields_at basic_fields from.old) }
 {
     let lat = from.take_signed(21)?;
     let lon = from.take_signed(21)?;

@@ -1,11 +1,11 @@
 //! Encoding and decoding of a report group of any kind.
 
-ghost use Rattle.std.specs.Prelude.{◌≡◌, ℕ, ◌+◌, ◌*◌, ◌≤◌, ◌↔◌, Bool, false, List, ◌++◌, length, IfOk, IsOkAnd, IsErrAnd, OnErr};
-ghost use Rattle.bit_terms.specs.Reading.{Gives};
-ghost use Rattle.adsc_groups.specs.Fields.{WereRead, IsFirstCut};
-ghost use Rattle.adsc_groups.specs.Groups.{GroupData, IsGroupTag, is_group_tag, group_fields, EncodesGroup, FitsGroup, group_bits, group_at};
-ghost use Rattle.adsc_groups.specs.declared.refusal.GroupWhy.TheVariants as why;
+ghost use Rattle.std.specs.Prelude.{◌≡◌, ◌+◌, ◌*◌, ◌≤◌, ◌↔◌, ◌++◌, length, Ok, Err, OnErr};
+ghost use Rattle.bit_terms.specs.Reading.{Gives, Unread};
+ghost use Rattle.adsc_groups.specs.Groups.{IsGroupTag, EncodesGroup, GroupWasRead, IsGroupRefusal, group_bits, group_at};
 ghost use Rattle.adsc_groups.specs.GroupView.{group_data, group_size};
+ghost use Rattle.adsc_groups.specs.declared.group.Group.{Group as GroupValue};
+ghost use Rattle.adsc_groups.specs.declared.refusal.GroupRefusal.{GroupRefusal as RefusalValue};
 
 use crate::group::Group;
 use crate::kinds::{
@@ -53,8 +53,19 @@ pub fn group_octets(group: &Group) -> u8
 /// Writes the data of a group without its tag, with the padding zero. There is room for it.
 ///
 /// Source: RTCA DO-258A / EUROCAE ED-100A; zeros as padding are this project's profile.
-#[tactic(auto, unfolding(crate::specs::Groups::group_bits))]
 pub fn encode_group(group: &Group, out: &mut BitWriter)
+    requires { length out.old + group_size group.now ≤ 2040 }
+    ensures bits { out.new ≡ out.old ++ group_bits (group_data group.now) }
+    ensures len { length out.new ≡ length out.old + group_size group.now }
+    // It is an encoding of the group, so reading it gives the group back.
+    ensures encodes { EncodesGroup (group_data group.now) (group_bits (group_data group.now)) }
+{
+    encode_kind(group, out);
+}
+
+// Writes the data by the group's kind.
+#[tactic(auto, unfolding(crate::specs::Groups::group_bits))]
+fn encode_kind(group: &Group, out: &mut BitWriter)
     requires { length out.old + group_size group.now ≤ 2040 }
     ensures bits { out.new ≡ out.old ++ group_bits (group_data group.now) }
     ensures len { length out.new ≡ length out.old + group_size group.now }
@@ -71,32 +82,27 @@ pub fn encode_group(group: &Group, out: &mut BitWriter)
     }
 }
 
-/// The group whose data stands next, behind this tag, whatever its padding. The reader then stands just past it.
+/// The group whose data stands next, behind this tag, whatever its padding. The reader then stands
+/// just past it.
 ///
 /// Source: RTCA DO-258A / EUROCAE ED-100A.
 ///
 /// # Errors
 ///
-/// `Tag` exactly where the tag is none of 12 to 17, 22 and 23, at the reader's place. `Short` exactly where a field isn't wholly there,
-/// at its first bit; padding is a field too. The reader does not move then.
+/// `Tag` exactly where the tag is none of 12 to 17, 22 and 23, at the reader's place. `Short`
+/// exactly where a field isn't wholly there, at its first bit; padding is a field too. The reader
+/// does not move then.
 pub fn decode_group(tag: u8, from: &mut BitReader) -> Result<Group, GroupRefusal>
-    // What is read is encoded so, and what is encoded so is read.
-    ensures found { IfOk result (λ g. ((group_data g).tag ≡ tag) × IsGroupTag tag
-        × WereRead (group_fields tag) (group_data g).values from.old from.new) }
-    ensures only { (group : GroupData) (bits rest : List Bool) → group.tag ≡ tag → EncodesGroup group bits
-        → from.old.left ≡ bits ++ rest → IsOkAnd result (λ g. group_data g ≡ group) × (from.new.left ≡ rest) }
-    ensures written { (group : GroupData) (rest : List Bool) → group.tag ≡ tag → FitsGroup group
-        → from.old.left ≡ group_bits group ++ rest
-        → IsOkAnd result (λ g. group_data g ≡ group) × (from.new.left ≡ rest) }
-
-    // A refusal is at the tag, or at the first field that is cut.
-    ensures tag { (bit : ℕ) → IsErrAnd result (λ e. e ≡ record { bit = bit; why = why.Tag })
-        ↔ ((is_group_tag tag ≡ false) × (bit ≡ from.old.at)) }
-    ensures short { (bit : ℕ) → IsErrAnd result (λ e. e ≡ record { bit = bit; why = why.Short })
-        ↔ (IsGroupTag tag × IsFirstCut (group_fields tag) from.old bit) }
+    // The group is answered exactly where an encoding of it stands next, and this is left behind
+    // it.
+    ensures read { (group : GroupValue) (left : Unread) → ((result ≡ Ok group) × (from.new ≡ left))
+        ↔ GroupWasRead tag (group_data group) from.old left }
+    // It is refused exactly at the tag, or at the first field that is cut.
+    ensures refused { (refusal : RefusalValue) → (result ≡ Err refusal)
+        ↔ IsGroupRefusal tag from.old refusal }
     ensures unmoved { OnErr result (from.new ≡ from.old) }
-
-    // All of this as one function of what is left.
+    // This one joins the crates: all of it as a function of what is left, by which decoders above
+    // are proved.
     ensures gives { Gives group_data (λ e. e) result from.new (group_at tag from.old) }
 {
     group_from(tag, from)

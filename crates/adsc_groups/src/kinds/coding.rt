@@ -79,7 +79,8 @@ pub(crate) fn encode_airframe(airframe: &Airframe, out: &mut BitWriter)
 /// Writes the data of the intermediate projected intent, with the padding zero.
 pub(crate) fn encode_intermediate(intermediate: &Intermediate, out: &mut BitWriter)
     requires { length out.old + 64 ≤ 2040 }
-    ensures bits { out.new ≡ out.old ++ fields_bits intermediate_fields (intermediate_values intermediate.now) }
+    ensures bits { out.new
+        ≡ out.old ++ fields_bits intermediate_fields (intermediate_values intermediate.now) }
     ensures len { length out.new ≡ length out.old + 64 }
 {
     out.put(intermediate.distance, 16);
@@ -105,7 +106,8 @@ pub(crate) fn encode_fixed(fixed: &Fixed, out: &mut BitWriter)
 /// The data of the flight identification that stands next.
 #[tactic(auto, unfolding(crate::specs::Fields::fields_at))]
 pub(crate) fn decode_flight_id(from: &mut BitReader) -> Result<FlightId, Short>
-    ensures { Gives flight_id_values (λ e. e.bit) result from.new (fields_at flight_id_fields from.old) }
+    ensures { Gives flight_id_values (λ e. e.bit) result from.new
+        (fields_at flight_id_fields from.old) }
 {
     let codes = [
         from.take(6)? as u8,
@@ -165,7 +167,8 @@ pub(crate) fn decode_motion(from: &mut BitReader) -> Result<Motion, Short>
 /// The meteorological data that stands next.
 #[tactic(auto, unfolding(crate::specs::Fields::fields_at))]
 pub(crate) fn decode_weather(reader: &mut BitReader) -> Result<Weather, Short>
-    ensures { Gives weather_values (λ e. e.bit) result reader.new (fields_at weather_fields reader.old) }
+    ensures { Gives weather_values (λ e. e.bit) result reader.new
+        (fields_at weather_fields reader.old) }
 {
     let wind = reader.take(9)?;
     let invalid = reader.take(1)? as u8;
@@ -183,7 +186,8 @@ pub(crate) fn decode_weather(reader: &mut BitReader) -> Result<Weather, Short>
 /// The data of the airframe identification that stands next.
 #[tactic(auto, unfolding(crate::specs::Fields::fields_at))]
 pub(crate) fn decode_airframe(from: &mut BitReader) -> Result<Airframe, Short>
-    ensures { Gives airframe_values (λ e. e.bit) result from.new (fields_at airframe_fields from.old) }
+    ensures { Gives airframe_values (λ e. e.bit) result from.new
+        (fields_at airframe_fields from.old) }
 {
     let address = from.take(24)?;
     Ok(Airframe { address })
@@ -192,7 +196,8 @@ pub(crate) fn decode_airframe(from: &mut BitReader) -> Result<Airframe, Short>
 /// The data of the intermediate projected intent that stands next.
 #[tactic(auto, unfolding(crate::specs::Fields::fields_at))]
 pub(crate) fn decode_intermediate(from: &mut BitReader) -> Result<Intermediate, Short>
-    ensures { Gives intermediate_values (λ e. e.bit) result from.new (fields_at intermediate_fields from.old) }
+    ensures { Gives intermediate_values (λ e. e.bit) result from.new
+        (fields_at intermediate_fields from.old) }
 {
     let distance = from.take(16)?;
     let invalid = from.take(1)? as u8;

@@ -1,5 +1,4 @@
-use Rattle.contract_rules.proofs.Steps.{malformed_changes_no_contract}
-use Rattle.contract_rules.proofs.Unchanged.{malformed_changes_nothing}
+use Rattle.contract_rules.proofs.Unchanged.{malformed_changes_no_contract, malformed_changes_nothing}
 use Rattle.contract_rules.proofs.malformed_changes_no_contract.Goals as goal
 
 pub returns-clause-contracts : goal.returns-clause-contracts

@@ -1,25 +1,21 @@
-use Rattle.std.proofs.Common.{refl, subst}
-use Rattle.shown_lines.specs.Meanings.{HasUnbuilt}
-use Rattle.adsc_bench.specs.Outcomes.{lines_shown, IsOutcome}
-use Rattle.adsc_bench.proofs.ShowingLaws.{shows-unbuilt, shows-written, shows-cut}
+use Rattle.std.proofs.Common.{refl, arith}
+use Rattle.adsc_bench.proofs.ShowingLaws.{nothing_shown, shows-memory, shows_anyway, still_counts}
 use Rattle.adsc_bench.proofs.showing.show.Goals as goal
 
-pub returns-in-Ok-None : goal.returns-in-Ok-None
-returns-in-Ok-None g c =
-    let unbuilt = subst (λ bytes. HasUnbuilt (lines_shown c.in-Ok.whole.end bytes)) c.bytes.ensures (rw c.in-Ok-None.field-0-is at c.in-Ok-None.ensures.none) in
-    rw c.status_of_unbuilt.ensures
-    (shows-unbuilt _ _ _ c.in-Ok.whole.end c.in-Ok.whole.bytes c.in-Ok.ensures.bytes c.in-Ok.ensures.end unbuilt refl)
+pub returns-in-Err : goal.returns-in-Err
+returns-in-Err g c = shows-memory _ _ _ (refl, refl)
 
-pub returns-in-Ok-write_all : goal.returns-in-Ok-write_all
-returns-in-Ok-write_all g c =
-    let outcome = subst (λ bytes. IsOutcome c.in-Ok.whole.end bytes c.in-Ok-Some.output.status c.in-Ok-Some.output.text.items) c.bytes.ensures
-    (rw c.in-Ok-Some.field-0-is at c.in-Ok-Some.ensures.some) in
-    shows-written _ _ _ c.in-Ok.whole.end c.in-Ok.whole.bytes c.in-Ok-Some.output.text.items c.in-Ok-Some.output.status c.in-Ok.ensures.bytes c.in-Ok.ensures.end outcome
-    (rw c.as_slice.ensures.value at c.in-Ok-write_all.ensures.written) c.in-Ok-write_all.ensures.cause.kept
+pub loop-status-init : goal.loop-status-init
+loop-status-init g c =
+    let fresh = c.in-Ok.ensures.fresh in
+    record { shown = nothing_shown _ _ _ c.in-Ok.ensures.stands fresh.0 fresh.1 fresh.2; counted = omega (arith, fresh.2) }
 
-pub returns : goal.returns
-returns g c =
-    let outcome = subst (λ bytes. IsOutcome c.in-Ok.whole.end bytes c.in-Ok-Some.output.status c.in-Ok-Some.output.text.items) c.bytes.ensures
-    (rw c.in-Ok-Some.field-0-is at c.in-Ok-Some.ensures.some) in
-    shows-cut _ _ _ c.in-Ok.whole.end c.in-Ok.whole.bytes c.in-Ok-Some.output.text.items c.in-Ok-Some.output.status c.in-Ok.ensures.bytes c.in-Ok.ensures.end outcome
-    c.in-Err-write_all.ensures.cause.failed (rw c.as_slice.ensures.value at c.in-Err-write_all.ensures.prefix)
+pub returns-in-Some : goal.returns-in-Some
+returns-in-Some g c = shows_anyway _ _ _ _ (c.in-Some.ensures.some _ c.loop-status.invariant.shown)
+
+pub loop-status-preserved : goal.loop-status-preserved
+loop-status-preserved g c = record { shown = c.in_default.ensures.none _ c.loop-status.invariant.shown; counted = c.in_default.ensures.counted }
+
+pub loop-status-smaller : goal.loop-status-smaller
+loop-status-smaller g c =
+    still_counts _ _ _ _ _ c.loop-status.invariant.shown c.in_default.ensures.number

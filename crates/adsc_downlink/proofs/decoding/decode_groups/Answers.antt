@@ -4,8 +4,9 @@ use Rattle.std.proofs.lemmas.List.{map-append}
 use Rattle.std.proofs.lemmas.Result.{err_from_is_err_and}
 use Rattle.adsc_groups.specs.GroupView.{group_data}
 use Rattle.adsc_downlink.specs.ItemView.{report_group_data}
-use Rattle.adsc_downlink.specs.Reading.{groups_at, with_front, many_at}
-use Rattle.adsc_downlink.proofs.Stepping.{groups_stop_full, groups_stop_end, groups_stop_refused, groups_step}
+use Rattle.adsc_downlink.specs.Reading.{groups_at}
+use Rattle.adsc_downlink.specs.Refusals.{many_at}
+use Rattle.adsc_downlink.proofs.Stepping.{with_front, groups_stop_full, groups_stop_end, groups_stop_refused, groups_step}
 use Rattle.adsc_downlink.proofs.decoding.decode_groups.Goals as goal
 
 pub returns-then-len-eq8-clause-gives : goal.returns-then-len-eq8-clause-gives

@@ -2,7 +2,8 @@
 use Rattle.std.proofs.Common.{◌≡◌, ◌-◌, ◌≤◌, map}
 use Rattle.arrayvec.specs.ArrayVec.{array_vec_len}
 use Rattle.adsc_downlink.specs.ItemView.{report_group_data}
-use Rattle.adsc_downlink.specs.Reading.{groups_at, with_front}
+use Rattle.adsc_downlink.specs.Reading.{groups_at}
+use Rattle.adsc_downlink.proofs.Stepping.{with_front}
 use Rattle.adsc_downlink.proofs.decoding.decode_groups.Given as goal
 
 abbrev pub invariant-loop-groups : goal.invariant-loop-groups

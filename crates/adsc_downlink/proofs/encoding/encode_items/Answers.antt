@@ -6,6 +6,7 @@ use Rattle.adsc_downlink.specs.Items.{item_bits}
 use Rattle.adsc_downlink.specs.ItemView.{item_data}
 use Rattle.adsc_downlink.proofs.Lists.{one_more, room_for_item}
 use Rattle.adsc_downlink.proofs.Canonical.{canonical_more}
+use Rattle.adsc_downlink.proofs.Sizes.{whole_items}
 use Rattle.adsc_downlink.proofs.encoding.encode_items.Goals as goal
 
 pub encode_item-requires : goal.encode_item-requires
@@ -30,3 +31,6 @@ pub returns-clause-encodes : goal.returns-clause-encodes
 returns-clause-encodes c =
     subst (λ xs. EncodesEach EncodesItem (map item_data xs) (flat_map item_bits (map item_data xs)))
     (take_all c.loop-item.item-index c.args.items.now c.loop-item-test.false) c.loop-item.invariant.encodes
+
+pub returns-clause-whole : goal.returns-clause-whole
+returns-clause-whole c = whole_items c.args.items.now

@@ -15,6 +15,6 @@ pub returns-in-Ok-clause-went : goal.returns-in-Ok-clause-went
 returns-in-Ok-clause-went c =
     subst (λ setting. GoesOn c.args.over begun 1 (script_lines c.args.lines.now) (flying setting) 4 (drop 3 (script_lines c.args.lines.now)))
     (setting_of_three c.in-Ok.craft.setting c.in_ok-who.who (c.in_ok-address.address ∷ []) c.in_ok-first.first
-    c.in-Ok.ensures.registration c.in-Ok.ensures.flight c.in-Ok.ensures.airframe (search rules) c.in-Ok.ensures.first)
+    c.in-Ok.ensures.registration c.in-Ok.ensures.flight c.in-Ok.ensures.airframe c.in-Ok.ensures.profile (search rules) c.in-Ok.ensures.first)
     (three_go_on c.args.over c.in_ok-who.who (c.in_ok-address.address ∷ []) c.in_ok-first.first _ _ _ c.behind_line-second.ensures c.behind_line-third.ensures
     c.in_ok-who.ensures.went c.in_ok-address.ensures.went (c.in_ok-first.ensures.went c.in_ok-who.who (c.in_ok-address.address ∷ [])))

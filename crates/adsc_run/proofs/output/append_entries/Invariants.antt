@@ -1,7 +1,7 @@
 use Rattle.std.proofs.Common.{◌≡◌, ◌++◌, take}
 use Rattle.std.specs.List.{flat_map}
 use Rattle.aircraft_core.specs.Entries.{line_of}
-use Rattle.shown_lines.specs.Fields.{number_field}
+use Rattle.output_fields.specs.Fields.{number_field}
 use Rattle.adsc_run.proofs.output.append_entries.Given as goal
 
 -- what was appended so far are the line numbers of the entries so far

@@ -1,6 +1,7 @@
 -- The fields, one after the other.
 use Rattle.std.proofs.Common.{refl, rules, append_assoc, append-nil, to_z-of_z, FitsSigned, w32}
 use Rattle.adsc_groups.specs.Basic.{basic_bits}
+use Rattle.adsc_groups.proofs.BasicLaws.{basic_encodes}
 use Rattle.adsc_groups.proofs.basic.coding.encode_basic.Goals as goal
 
 pub returns-clause-bits : goal.returns-clause-bits
@@ -22,3 +23,6 @@ returns-clause-bits c =
       append_assoc,
       append-nil,
     ) refl
+
+pub returns-clause-encodes : goal.returns-clause-encodes
+returns-clause-encodes c = basic_encodes c.args.basic.now

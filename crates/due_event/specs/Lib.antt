@@ -1,0 +1,3 @@
+pub mod RuleTerms
+pub mod Triggers
+pub mod Watches

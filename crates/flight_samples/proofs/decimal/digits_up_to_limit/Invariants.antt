@@ -1,0 +1,10 @@
+use Rattle.std.proofs.Common.{◌≡◌, ◌^◌, min, take}
+use Rattle.std.specs.Str.Parse.{AllDigits, digits_value}
+use Rattle.flight_samples.proofs.decimal.digits_up_to_limit.Given as goal
+
+-- The bytes so far are digits, and the value is theirs.
+abbrev pub invariant-loop-byte : goal.invariant-loop-byte
+invariant-loop-byte l = record {
+  digits : AllDigits 10 (take l.byte-index l.text);
+  value : l.value ≡ min (digits_value 10 (take l.byte-index l.text)) (2 ^ 32);
+}
