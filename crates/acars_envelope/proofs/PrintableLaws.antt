@@ -22,11 +22,11 @@ use Rattle.acars_envelope.proofs.PassingLaws.{code_bytes}
 use Rattle.acars_envelope.proofs.SealedLaws.{check_of-lt}
 
 -- characters of a kind that is within printable ones
-within : (test : ℕ → Bool) → ((c : ℕ) → test c ≡ true → is_text_character c ≡ true) → (xs : List ℕ) → AllPass test xs
+pub within : (test : ℕ → Bool) → ((c : ℕ) → test c ≡ true → is_text_character c ≡ true) → (xs : List ℕ) → AllPass test xs
     → AllPass is_text_character xs
 within test wider xs pass k d below = wider (get_or xs k d) (pass k d below)
 
-name_is_printable : (c : ℕ) → is_name_character c ≡ true → is_text_character c ≡ true
+pub name_is_printable : (c : ℕ) → is_name_character c ≡ true → is_text_character c ≡ true
 name_is_printable c name = grind (arith, nat_tests)
 
 mark_is_printable : (c : ℕ) → is_mark_character c ≡ true → is_text_character c ≡ true
@@ -42,12 +42,12 @@ dots_are_printable : (n : ℕ) → AllPass is_text_character (replicate n 46)
 dots_are_printable n k d below =
     rw (get_or-replicate n k 46 d (omega (arith, length-replicate {A = ℕ} n 46))) refl
 
-registration_is_printable : (registration : List ℕ) → IsRegistration registration → AllPass is_text_character registration
+pub registration_is_printable : (registration : List ℕ) → IsRegistration registration → AllPass is_text_character registration
 registration_is_printable registration is =
     rw is.dotted (joined (replicate (7 - length is.mark) 46) is.mark (dots_are_printable (7 - length is.mark))
     (within is_mark_character mark_is_printable is.mark is.is_mark.characters))
 
-digits_are_printable : (octets : List ℕ) → IsBytes octets → AllPass is_text_character (encode_upper octets)
+pub digits_are_printable : (octets : List ℕ) → IsBytes octets → AllPass is_text_character (encode_upper octets)
 digits_are_printable octets bytes = within is_capital_digit digit_is_printable (encode_upper octets) (digits_are_capital octets bytes)
 
 body_is_printable : (body : Body) → HasItsForms body → is_well_formed body ≡ true → AllPass is_text_character (written_body body)

@@ -1,9 +1,9 @@
 -- The laws of what `show` promises: from how far it has come to the promise of each status.
-use Rattle.std.proofs.Common.{◌≡◌, ℕ, zero, suc, ◌+◌, ◌-◌, ◌<◌, ◌≤◌, true, false, IsTrue, cond, List, [], ◌∷◌, ◌++◌, length, take, drop, Option, Some, None, IfSome, Result, Ok, Err, ◌⊎◌, inl, inr, sym, ap, ◌∙◌, refl, subst, append_assoc, arith, ne_eqb}
-use Rattle.std.proofs.lemmas.List.{append-nil, length-append, length-take-le, take_all, take-append-drop, take_at}
+use Rattle.std.proofs.Common.{◌≡◌, ℕ, zero, suc, ◌+◌, ◌-◌, ◌<◌, true, false, IsTrue, cond, List, [], ◌∷◌, ◌++◌, length, take, Option, Some, None, IfSome, Result, Ok, Err, inl, inr, sym, ap, ◌∙◌, refl, subst, append_assoc, arith, ne_eqb}
+use Rattle.std.proofs.lemmas.List.{append-nil, length-take-le, take_all, take_at}
 use Rattle.std.specs.Io.KnownBytes.{Appends, Consumes, IsAtEnd}
 use Rattle.adsc_io.specs.Causes.{Rose}
-use Rattle.adsc_io.specs.Inputs.{HasLine, IsLineAt, IsOverLimit, is_within_limits, line_end, lines_before_limit, whole_lines}
+use Rattle.adsc_io.specs.Inputs.{IsLineAt, IsOverLimit, is_within_limits, lines_before_limit, whole_lines}
 use Rattle.adsc_io.specs.Lines.{newline, script_lines}
 use Rattle.adsc_io.specs.declared.limits.TheConstants.{MAX_LINE_BYTES, MAX_SCRIPT_LINES}
 use Rattle.adsc_io.specs.Readers.{LinesRead, ReadsNext, StandsIn, lines_passed}
@@ -15,13 +15,11 @@ use Rattle.adsc_io.proofs.Joined.{Appends-none, Appends-then, AppendsPrefix-then
 use Rattle.adsc_io.proofs.LimitLaws.{before_limit-all, before_limit-at, before_limit-front, within_before, within_parts}
 use Rattle.adsc_io.proofs.LineEndLaws.{line_is_there}
 use Rattle.adsc_io.proofs.ReaderLaws.{whole_lines-read}
-use Rattle.shown_lines.specs.Meanings.{HasRefused, HasUnbuilt}
-use Rattle.shown_lines.specs.Shown.{AreShown, IsShown, IsShownWhole, IsShownCut, IsShownFront, IsShownUnbuilt, refusals}
+use Rattle.shown_lines.specs.Shown.{AreShown, IsShown, IsShownWhole, IsShownCut, IsShownFront, refusals}
 use Rattle.shown_lines.specs.Texts.{end_text}
 use Rattle.shown_lines.specs.declared.show.LineShown.{LineShown}
-use Rattle.shown_lines.specs.declared.show.LineShown.TheVariants as ways
-use Rattle.shown_lines.proofs.CountLaws.{shown_is_built, refused_is_counted, counted_is_refused}
-use Rattle.shown_lines.proofs.ShownLaws.{AreShown-none, before_line, shown_next, unshown, up_to_line}
+use Rattle.shown_lines.proofs.CountLaws.{refused_is_counted, counted_is_refused}
+use Rattle.shown_lines.proofs.ShownLaws.{AreShown-none, shown_next}
 use Rattle.adsc_bench.specs.Progress.{HasReadAll, HasReadLine, HasShown, IsLineShown, status_of_whole}
 use Rattle.adsc_bench.specs.Seen.{Seen, seen}
 use Rattle.adsc_bench.specs.Showing.{IsShownSoFar, IsDueStatus, Promises, Shows}
@@ -51,43 +49,25 @@ nothing_more ended (Some rest) more at_end is end = some_same rest more is ∙ a
 
 -- ---- the status that is due
 
-due-unbuilt : (bytes text : List ℕ) → IsShownUnbuilt bytes text → IsDueStatus bytes NotBuilt
-due-unbuilt bytes text unbuilt = record {
-  not_built = λ some. inl refl;
-  over = λ built over. absurd (built has);
-  refused = λ built within some. absurd (built has);
-  done = λ built within none. absurd (built has);
-}
-  where
-    has : HasUnbuilt (lines_before_limit bytes)
-    has = record { before = unbuilt.before; line = unbuilt.line; behind = unbuilt.behind; meaning = _; joined = unbuilt.joined; means = unbuilt.means; passes = refl }
-
 due-memory : (bytes : List ℕ) → IsDueStatus bytes NoMemory
 due-memory bytes = record {
-  not_built = λ some. inr refl;
-  over = λ built over. inr refl;
-  refused = λ built within some. inr refl;
-  done = λ built within none. inr refl;
+  over = λ over. inr refl;
+  refused = λ within some. inr refl;
+  done = λ within none. inr refl;
 }
 
 due-cut : (bytes text : List ℕ) → IsShownCut bytes text → IsDueStatus bytes Limit
 due-cut bytes text cut = record {
-  not_built = λ unbuilt. absurd (shown_is_built (lines_before_limit bytes) text cut.refused cut.shown unbuilt);
-  over = λ built over. inl refl;
-  refused = λ built within some. absurd (within cut.over);
-  done = λ built within none. absurd (within cut.over);
+  over = λ over. inl refl;
+  refused = λ within some. absurd (within cut.over);
+  done = λ within none. absurd (within cut.over);
 }
-
-whole_is_built : (bytes text : List ℕ) (refused : ℕ) → IsShownWhole bytes text refused → HasUnbuilt (lines_before_limit bytes) → ⊥
-whole_is_built bytes text refused whole unbuilt =
-    shown_is_built (script_lines bytes) whole.lines_shown refused whole.shown (subst HasUnbuilt (before_limit-all bytes whole.within) unbuilt)
 
 due-done : (bytes text : List ℕ) → IsShownWhole bytes text 0 → IsDueStatus bytes Done
 due-done bytes text whole = record {
-  not_built = λ unbuilt. absurd (whole_is_built bytes text 0 whole unbuilt);
-  over = λ built over. absurd (whole.within over);
-  refused = λ built within some. absurd (nothing_below (refused_is_counted (script_lines bytes) whole.lines_shown 0 whole.shown some));
-  done = λ built within none. inl refl;
+  over = λ over. absurd (whole.within over);
+  refused = λ within some. absurd (nothing_below (refused_is_counted (script_lines bytes) whole.lines_shown 0 whole.shown some));
+  done = λ within none. inl refl;
 }
   where
     nothing_below : 0 < 0 → ⊥
@@ -95,10 +75,9 @@ due-done bytes text whole = record {
 
 due-refused : (bytes text : List ℕ) (refused : ℕ) → 0 < refused → IsShownWhole bytes text refused → IsDueStatus bytes Refused
 due-refused bytes text refused some_refused whole = record {
-  not_built = λ unbuilt. absurd (whole_is_built bytes text refused whole unbuilt);
-  over = λ built over. absurd (whole.within over);
-  refused = λ built within some. inl refl;
-  done = λ built within none. absurd (none (counted_is_refused (script_lines bytes) whole.lines_shown refused whole.shown some_refused));
+  over = λ over. absurd (whole.within over);
+  refused = λ within some. inl refl;
+  done = λ within none. absurd (none (counted_is_refused (script_lines bytes) whole.lines_shown refused whole.shown some_refused));
 }
 
 -- ---- no line yet
@@ -211,15 +190,6 @@ long_read before left left' reads reads' written writes reader next refused numb
     line_read before left left' reads reads' written writes reader next refused text way answers.TooLong has call kept refl
     (long_shown next.number next.text text way (λ line long. subst (λ n. IsShown n line text way) numbered (is line long)))
 
--- the line before the limit, and the lines before it
-line_in_front : (bytes : List ℕ) (number : ℕ) (text : List ℕ) (way : LineShown) (line : IsLineShown bytes number text way)
-    → (behind : List (List ℕ)) × (lines_before_limit bytes ≡ line.has.before ++ line.line ∷ behind)
-line_in_front bytes number text way line =
-    let front = before_limit-front bytes number line.within in (
-      front.0,
-      front.1 ∙ ap (λ ls. ls ++ front.0) (up_to_line bytes line.line number line.has) ∙ append_assoc line.has.before (line.line ∷ []) front.0,
-    )
-
 -- the lines up to this one stand before the limit
 front_lines : (bytes : List ℕ) (number : ℕ) (text : List ℕ) (way : LineShown) → IsLineShown bytes number text way → take number (lines_before_limit bytes) ≡ take number (script_lines bytes)
 front_lines bytes number text way line =
@@ -229,9 +199,9 @@ front_lines bytes number text way line =
 
 -- the text of the line was written
 pub line_written : (before : Seen) (left : Option (List ℕ)) (reads : ℕ) (written written' : Option (List ℕ)) (writes writes' : ℕ) (reader : LinesRead) (refused refused' : ℕ) (text : List ℕ)
-    (way : LineShown) → HasReadLine before (seen left reads written writes) reader refused text way → (way ≡ ways.NotBuilt → ⊥) → refused' ≡ refused + refusals way
+    (way : LineShown) → HasReadLine before (seen left reads written writes) reader refused text way → refused' ≡ refused + refusals way
     → Appends written written' text → writes' ≡ writes → HasShown before (seen left reads written' writes') reader reader.number refused'
-line_written before left reads written written' writes writes' reader refused refused' text way has built counted appended kept = record {
+line_written before left reads written written' writes writes' reader refused refused' text way has counted appended kept = record {
   read = has.so_far.read;
   consumed = has.so_far.consumed;
   at_end = has.so_far.at_end;
@@ -239,16 +209,16 @@ line_written before left reads written written' writes writes' reader refused re
   text = has.so_far.text ++ text;
   shown = λ rest last.
       let line = has.line rest last in
-      shown_next (has.so_far.read ++ rest) line.line has.so_far.text text has.count reader.number refused refused' way has.next line.has counted (has.so_far.shown rest last) line.shown built;
+      shown_next (has.so_far.read ++ rest) line.line has.so_far.text text has.count reader.number refused refused' way has.next line.has counted (has.so_far.shown rest last) line.shown;
   written = Appends-then before.written written written' has.so_far.text text has.so_far.written appended;
   unfaulted = (has.so_far.unfaulted.0, kept ∙ has.so_far.unfaulted.1);
 }
 
 -- the text of the line could not be written
 pub line_unwritten : (before : Seen) (left : Option (List ℕ)) (reads : ℕ) (written written' : Option (List ℕ)) (writes writes' : ℕ) (reader : LinesRead) (refused : ℕ) (text : List ℕ)
-    (way : LineShown) → HasReadLine before (seen left reads written writes) reader refused text way → (way ≡ ways.NotBuilt → ⊥) → Rose writes writes' → AppendsPrefix written written' text
+    (way : LineShown) → HasReadLine before (seen left reads written writes) reader refused text way → Rose writes writes' → AppendsPrefix written written' text
     → Shows before (seen left reads written' writes') ⊥ WriteFault
-line_unwritten before left reads written written' writes writes' reader refused text way has built rose front = record {
+line_unwritten before left reads written written' writes writes' reader refused text way has rose front = record {
   promised = (
     rose_before,
     has.so_far.unfaulted.0,
@@ -272,35 +242,7 @@ line_unwritten before left reads written written' writes writes' reader refused 
           count = reader.number;
           refused = refused + refusals way;
           shown = subst (λ (lines : List (List ℕ)). AreShown lines (has.so_far.text ++ text) (refused + refusals way)) (sym (front_lines (has.so_far.read ++ more) reader.number text way line))
-              (shown_next (has.so_far.read ++ more) line.line has.so_far.text text has.count reader.number refused (refused + refusals way) way has.next line.has refl (has.so_far.shown more last) line.shown built);
-        }
-
--- the line is of a form that is not built
-pub line_unbuilt : (before now : Seen) (reader : LinesRead) (refused : ℕ) (text : List ℕ) (way : LineShown) → HasReadLine before now reader refused text way → way ≡ ways.NotBuilt
-    → Shows before now ⊥ NotBuilt
-line_unbuilt before now reader refused text way has none = record {
-  promised = (
-    has.so_far.unfaulted,
-    told-front before.left now.left has.so_far.read (λ bytes. (shown : List ℕ) × IsShownUnbuilt bytes shown × Appends before.written now.written shown) has.so_far.consumed
-        (λ more is. (has.so_far.text, unbuilt more (nothing_more (IsTrue reader.ended) now.left more has.so_far.at_end is), has.so_far.written)),
-  );
-  due = λ unread unwrit. told-front before.left now.left has.so_far.read (λ bytes. IsDueStatus bytes NotBuilt) has.so_far.consumed
-      (λ more is. due-unbuilt (has.so_far.read ++ more) has.so_far.text (unbuilt more (nothing_more (IsTrue reader.ended) now.left more has.so_far.at_end is)));
-}
-  where
-    unbuilt : (more : List ℕ) → (IsTrue reader.ended → more ≡ []) → IsShownUnbuilt (has.so_far.read ++ more) has.so_far.text
-    unbuilt more last =
-        let line = has.line more last in
-        let front = line_in_front (has.so_far.read ++ more) reader.number text way line in
-        record {
-          before = line.has.before;
-          line = line.line;
-          behind = front.0;
-          joined = front.1;
-          means = unshown reader.number line.line text way line.shown none;
-          refused = refused;
-          shown = subst (λ (lines : List (List ℕ)). AreShown lines has.so_far.text refused)
-              (before_line (has.so_far.read ++ more) line.line has.count line.has.before line.has.behind line.has.joined (omega (arith, has.next, line.has.counted))) (has.so_far.shown more last);
+              (shown_next (has.so_far.read ++ more) line.line has.so_far.text text has.count reader.number refused (refused + refusals way) way has.next line.has refl (has.so_far.shown more last) line.shown);
         }
 
 -- ---- no line
@@ -492,4 +434,4 @@ shows_anyway before after untouched status shows = record { promised = at status
     at BadLine promised = promised
     at NoMemory promised = absurd promised
     at Limit promised = promised
-    at NotBuilt promised = promised
+    at NotBuilt promised = absurd promised

@@ -2,11 +2,11 @@
 use Rattle.std.specs.Prelude.{◌≡◌, ◌⊎◌, ℕ, ◌<◌, List, IfSome}
 use Rattle.std.specs.Io.KnownBytes.{Appends, IsAtEnd}
 use Rattle.adsc_io.specs.Causes.{Rose}
-use Rattle.adsc_io.specs.Inputs.{IsOverLimit, lines_before_limit, whole_lines}
+use Rattle.adsc_io.specs.Inputs.{IsOverLimit, whole_lines}
 use Rattle.adsc_io.specs.Lines.{script_lines}
 use Rattle.adsc_io.specs.Writes.{AppendsPrefix}
-use Rattle.shown_lines.specs.Meanings.{HasRefused, HasUnbuilt}
-use Rattle.shown_lines.specs.Shown.{AreShown, IsShownWhole, IsShownCut, IsShownFront, IsShownUnbuilt}
+use Rattle.shown_lines.specs.Meanings.{HasRefused}
+use Rattle.shown_lines.specs.Shown.{AreShown, IsShownWhole, IsShownCut, IsShownFront}
 use Rattle.adsc_bench.specs.Seen.{Seen, Faultless, WereRead}
 use Rattle.adsc_bench.specs.declared.status.Status.{Status}
 use Rattle.adsc_bench.specs.declared.status.Status.TheVariants.{Done, Refused, Words, ReadFault, WriteFault, BadLine, NoMemory, Limit, NotBuilt}
@@ -44,19 +44,14 @@ Promises before after untouched NoMemory = untouched
 -- Limit: no fault came, the limit is met, and the shown text of the lines before was written.
 Promises before after untouched Limit = Faultless before after
     × IfSome before.left (λ bytes. (text : List ℕ) × IsShownCut bytes text × Appends before.written after.written text)
--- NotBuilt: no fault came, some line before the limit is a text of the application AFN, which is not built, and the shown text
--- of the lines before the first one was written.
-Promises before after untouched NotBuilt = Faultless before after
-    × IfSome before.left (λ bytes. (text : List ℕ) × IsShownUnbuilt bytes text × Appends before.written after.written text)
+-- NotBuilt: never.
+Promises before after untouched NotBuilt = ⊥
 
 -- The status is the one that the lines of the input say, or want of memory.
 pub record IsDueStatus (bytes : List ℕ) (status : Status) : Type 0 where
-  pub not_built : HasUnbuilt (lines_before_limit bytes) → (status ≡ NotBuilt) ⊎ (status ≡ NoMemory)
-  pub over : (HasUnbuilt (lines_before_limit bytes) → ⊥) → IsOverLimit bytes → (status ≡ Limit) ⊎ (status ≡ NoMemory)
-  pub refused : (HasUnbuilt (lines_before_limit bytes) → ⊥) → (IsOverLimit bytes → ⊥) → HasRefused (script_lines bytes)
-      → (status ≡ Refused) ⊎ (status ≡ NoMemory)
-  pub done : (HasUnbuilt (lines_before_limit bytes) → ⊥) → (IsOverLimit bytes → ⊥) → (HasRefused (script_lines bytes) → ⊥)
-      → (status ≡ Done) ⊎ (status ≡ NoMemory)
+  pub over : IsOverLimit bytes → (status ≡ Limit) ⊎ (status ≡ NoMemory)
+  pub refused : (IsOverLimit bytes → ⊥) → HasRefused (script_lines bytes) → (status ≡ Refused) ⊎ (status ≡ NoMemory)
+  pub done : (IsOverLimit bytes → ⊥) → (HasRefused (script_lines bytes) → ⊥) → (status ≡ Done) ⊎ (status ≡ NoMemory)
 
 -- What `show` promises: what its status promises, and where no fault comes, the status that is due.
 pub record Shows (before after : Seen) (untouched : Type 0) (status : Status) : Type 0 where

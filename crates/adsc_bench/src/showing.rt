@@ -16,9 +16,8 @@ use std::alloc::Global;
 /// profile.
 ///
 /// The text of a line that begins with `U,` is an uplink's, and of one that begins with `D,` a downlink's. A line that is
-/// refused is shown with the code and the place, and counted. Each line is shown before the next one is read. Right texts
-/// of the application AFN are not built yet: the first such line ends it with `NotBuilt`. All memory is taken before the
-/// first read. What each status promises is stated by the clause; want of memory alone is free.
+/// refused is shown with the code and the place, and counted. Each line is shown before the next one is read. All memory
+/// is taken before the first read. What each status promises is stated by the clause; want of memory alone is free.
 pub fn show<S: Source, K: Sink>(alloc: Global, source: &mut S, sink: &mut K) -> Status
     ensures { Shows
         (seen (S.left source.old) (S.faults source.old) (K.written sink.old) (K.faults sink.old))
@@ -107,9 +106,6 @@ impl Showing {
         ensures reader { self.new.reader ≡ self.old.reader }
         ensures counted { self.new.refused ≤ self.old.refused + 1 }
     {
-        if way == LineShown::NotBuilt {
-            return Some(Status::NotBuilt);
-        }
         self.refused += refusals_in(way);
         match write_all(sink, self.text.bytes()) {
             Ok(()) => None,
@@ -138,7 +134,7 @@ fn refusals_in(way: LineShown) -> u32
 {
     match way {
         LineShown::Refused => 1,
-        LineShown::Right | LineShown::NotBuilt => 0,
+        LineShown::Right => 0,
     }
 }
 

@@ -25,10 +25,33 @@ fn run_of(alloc: Global, script: &[u8]) -> Result<(Status, Vec<u8>), Fail> {
     Ok((status, sink.written().to_vec(alloc)?))
 }
 
+/// What `show` answers and writes where these reads of its source and these writes to its sink fail. A read gives 100 bytes
+/// at most, and a write takes four.
+fn showing_of(
+    alloc: Global,
+    lines: &str,
+    reads: &[u64],
+    writes: &[u64],
+) -> Result<(Status, Vec<u8>), Fail> {
+    let mut source = MemSource::new(alloc, lines.as_bytes(), 100, reads)?;
+    let mut sink = MemSink::new(alloc, 100, 4, writes)?;
+    let status = show(alloc, &mut source, &mut sink);
+    Ok((status, sink.written().to_vec(alloc)?))
+}
+
+/// A line, so many times.
+fn repeated(alloc: Global, line: &str, count: u32) -> Result<String, Fail> {
+    let mut lines = String::new(alloc);
+    for _ in 0..count {
+        lines.push_str(line)?;
+    }
+    Ok(lines)
+}
+
 #[test]
 fn scripts_are_run(rt: HostRuntime) -> Result<(), Fail> {
     let alloc = rt.alloc();
-    let table: [(&str, &str, Status, &str); 14] = [
+    let table: [(&str, &str, Status, &str); 13] = [
         (HEAD, "", Status::Done, "J\nL,AKLCDYA,none\nOK\n"),
         (
             HEAD,
@@ -55,24 +78,18 @@ fn scripts_are_run(rt: HostRuntime) -> Result<(), Fail> {
             "J,4\nBAD,5,FIELD,1\n",
         ),
         (HEAD, "G,AKLCDYA\n", Status::BadLine, "J\nBAD,4,KIND,0\n"),
-        (HEAD, "T,0\nT,-1\n", Status::NotBuilt, ""),
+        (HEAD, "K,AKLCDYA,A\nT,-1\n", Status::NotBuilt, ""),
         (
             HEAD,
-            "U,/AKLCDYA.ADS.N123450701BD4F\nU,/AKLCDYA.ADS.N1234507010BA50A3F\n",
-            Status::NotBuilt,
-            "",
-        ),
-        (
-            HEAD,
-            "U,/AKLCDYA.ADS.N123450209C3B2\n",
+            "U,/AKLCDYA.ADS.N123450701BD4F\nC,AKLCDYA,0700\n",
             Status::NotBuilt,
             "",
         ),
         (
             HEAD,
             "U,/AKLCDYA.AFN/FMHANZ1,.N12345/FAK0/FARADS,05087\n",
-            Status::NotBuilt,
-            "",
+            Status::Done,
+            "J,4\nL,AKLCDYA,none\nOK\n",
         ),
         ("", "", Status::BadLine, "J\nBAD,1,HEAD,0\n"),
         (
@@ -90,8 +107,8 @@ fn scripts_are_run(rt: HostRuntime) -> Result<(), Fail> {
         (
             "",
             "A,N12345,ANZ1,C81234\nG,AKLCDYA,NFFNDYA\nS,0,0,0,0,0,0,0,0,0,0,0,0,0,0,0,0,0,0,0,0,0,0,0,0,0,0\n",
-            Status::NotBuilt,
-            "",
+            Status::Done,
+            "J\nL,AKLCDYA,none\nL,NFFNDYA,none\nOK\n",
         ),
     ];
     for (head, lines, status, output) in table {
@@ -100,6 +117,17 @@ fn scripts_are_run(rt: HostRuntime) -> Result<(), Fail> {
         assert_eq!(rt; found, status, "at {lines}");
         assert_eq!(rt; written.as_slice(), output.as_bytes(), "at {lines}");
     }
+    Ok(())
+}
+
+#[test]
+fn the_limit_ends_a_run(rt: HostRuntime) -> Result<(), Fail> {
+    let alloc = rt.alloc();
+    let refused = repeated(alloc, "U,x\n", 199_996)?;
+    let script = format!(in alloc; "{HEAD}U,/AKLCDYA.ADS.N123450701BD4F\n{refused}T,-1")?;
+    let (status, written) = run_of(alloc, script.as_bytes())?;
+    assert_eq!(rt; status, Status::Limit);
+    assert_eq!(rt; written.as_slice(), b"J,4\nLIMIT,200001\n".as_slice());
     Ok(())
 }
 
@@ -177,13 +205,13 @@ fn texts_are_shown(rt: HostRuntime) -> Result<(), Fail> {
         ("", Status::Done, "end,0,0\n"),
         (
             "hello\nU,/AKLCDYA.AFN/FMHANZ1,.N12345/FAK0/FARADS,05087\nhello\n",
-            Status::NotBuilt,
-            "line,1,refused,FORM,0\n",
+            Status::Refused,
+            "line,1,refused,FORM,0\nline,2,U,AKLCDYA,AFN\nanswer,ANZ1,.N12345,0\napplication,ADS,0\nline,3,refused,FORM,0\nend,3,2\n",
         ),
         (
             "D,/GRND001.AFN/FMHANZ1,.N12345/FAK0/FARADS,05087\n",
-            Status::NotBuilt,
-            "",
+            Status::Refused,
+            "line,1,refused,TEXT,28\nend,1,1\n",
         ),
     ];
     for (lines, status, output) in table {
@@ -197,6 +225,58 @@ fn texts_are_shown(rt: HostRuntime) -> Result<(), Fail> {
             );
             assert_eq!(rt; sink.written(), output.as_bytes(), "at {lines}");
         }
+    }
+    Ok(())
+}
+
+#[test]
+fn faults_end_a_showing(rt: HostRuntime) -> Result<(), Fail> {
+    let alloc = rt.alloc();
+    // The second read fails, behind some whole lines, and behind none.
+    let table: [(&str, Status, &str); 3] = [
+        (
+            "U,\ncd\nef",
+            Status::ReadFault,
+            "line,1,refused,SHORT,0\nline,2,refused,FORM,0\n",
+        ),
+        ("ab\ncd", Status::ReadFault, "line,1,refused,FORM,0\n"),
+        ("abcdefgh", Status::ReadFault, ""),
+    ];
+    for (lines, due, output) in table {
+        let (status, written) = showing_of(alloc, lines, &[2], &[])?;
+        assert_eq!(rt; status, due, "at {lines}");
+        assert_eq!(rt; written.as_slice(), output.as_bytes(), "at {lines}");
+    }
+
+    // A write fails: in the text of a line, in the line that ends the text, and behind it.
+    let table: [(u64, Status, &str); 3] = [
+        (2, Status::WriteFault, "line"),
+        (8, Status::WriteFault, "line,1,refused,FORM,0\nend,"),
+        (9, Status::Refused, "line,1,refused,FORM,0\nend,1,1\n"),
+    ];
+    for (call, due, output) in table {
+        let (status, written) = showing_of(alloc, "ab\n", &[], &[call])?;
+        assert_eq!(rt; status, due);
+        assert_eq!(rt; written.as_slice(), output.as_bytes());
+    }
+    Ok(())
+}
+
+#[test]
+fn the_limit_ends_a_showing(rt: HostRuntime) -> Result<(), Fail> {
+    let alloc = rt.alloc();
+    let lines = repeated(alloc, "x\n", 200_000)?;
+    let table: [(&str, Status, &str); 2] = [
+        ("", Status::Refused, "end,200000,200000\n"),
+        ("U,/AKLCDYA", Status::Limit, "line,200000,refused,FORM,0\n"),
+    ];
+    for (more, due, last) in table {
+        let input = format!(in alloc; "{lines}{more}")?;
+        let mut source = MemSource::new(alloc, input.as_bytes(), 8_192, &[])?;
+        let mut sink = MemSink::new(alloc, 6_000_000, 6_000_000, &[])?;
+        let status = show(alloc, &mut source, &mut sink);
+        assert_eq!(rt; status, due);
+        assert!(rt; sink.written().ends_with(last.as_bytes()));
     }
     Ok(())
 }

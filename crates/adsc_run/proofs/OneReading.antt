@@ -10,11 +10,12 @@ use Rattle.net_script.proofs.FaultLaws.{fault_same}
 use Rattle.net_script.proofs.LineLaws.{no_fault}
 use Rattle.net_script.proofs.ValueLaws.{one_value}
 use Rattle.adsc_run.specs.Places.{IsInPlace, IsMisplaced, IsMisplacedBy, head_letter}
-use Rattle.adsc_run.specs.Readings.{BringsNoText, IsBadLine, IsGoodLine, ReadsLine, ReadsText}
+use Rattle.ground_texts.specs.Readings.{ReadsText}
+use Rattle.ground_texts.specs.declared.ground_text.GroundText.{GroundText}
+use Rattle.ground_texts.proofs.TextLaws.{one_text}
+use Rattle.adsc_run.specs.Readings.{BringsNoText, IsBadLine, IsGoodLine, ReadsLine}
 use Rattle.adsc_run.specs.declared.reading.Reading.{Reading}
 use Rattle.adsc_run.specs.declared.reading.Reading.TheVariants.{Bad, Says, Brings}
-use Rattle.adsc_run.specs.declared.reading.TextReading.{TextReading}
-use Rattle.adsc_run.proofs.TextLaws.{one_text}
 
 -- ---- bad lines
 
@@ -75,4 +76,4 @@ one_reading number bytes (Brings reading) (Bad b n) one other = absurd (never_ba
 one_reading number bytes (Brings reading) (Says value) one other = absurd (brings_one number one.0 bytes value other.0 other.1 one.1)
 one_reading number bytes (Brings reading) (Brings found) one other =
     let same : one.0 ≡ other.0 = one.1.says.says ∙ sym other.1.says.says in
-    ap (λ (t : TextReading). Brings t) (one_text (drop other.0 bytes) reading found (subst (λ from. ReadsText (drop from bytes) reading) same one.2) other.2)
+    ap (λ (t : GroundText). Brings t) (one_text (drop other.0 bytes) reading found (subst (λ from. ReadsText (drop from bytes) reading) same one.2) other.2)

@@ -4,6 +4,7 @@ use Rattle.std.specs.List.{flat_map}
 use Rattle.adsc_io.specs.Inputs.{IsOverLimit, lines_before_limit}
 use Rattle.adsc_io.specs.Lines.{ended}
 use Rattle.aircraft_core.specs.declared.entry.Entry.{Entry}
+use Rattle.aircraft_core.specs.LogonStates.{logon_state}
 use Rattle.aircraft_core.specs.Setting.{Setting}
 use Rattle.aircraft_core.proofs.OneList.{same_downlinks}
 use Rattle.adsc_run.specs.declared.end.End.{End}
@@ -47,8 +48,8 @@ links_one : (setting : Setting) (entries : List Entry) (link : ℕ) (addresses :
 links_one setting entries link [] one other first second = first ∙ sym second
 links_one setting entries link (address ∷ addresses) one other first second =
     first.4
-    ∙ ap (λ (texts : List (List ℕ)). logon_line address ++ (downlink_lines texts ++ first.1)) (same_downlinks setting entries link first.0 second.0 first.2 second.2)
-    ∙ ap (λ (behind : List ℕ). logon_line address ++ (downlink_lines second.0 ++ behind)) (links_one setting entries (link + 1) addresses first.1 second.1 first.3 second.3)
+    ∙ ap (λ (texts : List (List ℕ)). logon_line address (logon_state link entries) ++ (downlink_lines texts ++ first.1)) (same_downlinks setting entries link first.0 second.0 first.2 second.2)
+    ∙ ap (λ (behind : List ℕ). logon_line address (logon_state link entries) ++ (downlink_lines second.0 ++ behind)) (links_one setting entries (link + 1) addresses first.1 second.1 first.3 second.3)
     ∙ sym second.4
 
 lines_of_links_one : (setting : Option Setting) (entries : List Entry) (one other : List ℕ) → AreLinesOfLinks setting entries one → AreLinesOfLinks setting entries other → one ≡ other

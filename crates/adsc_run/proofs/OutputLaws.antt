@@ -3,6 +3,7 @@ use Rattle.std.proofs.Common.{◌≡◌, ℕ, ◌+◌, ◌<◌, List, [], ◌++�
 use Rattle.std.proofs.Math.Seq.{drop-cons, drop-length}
 use Rattle.aircraft_core.specs.declared.entry.Entry.{Entry}
 use Rattle.aircraft_core.specs.Downlinks.{AreDownlinks}
+use Rattle.aircraft_core.specs.LogonStates.{logon_state}
 use Rattle.aircraft_core.specs.Setting.{Setting, address_of}
 use Rattle.adsc_run.specs.Appending.{Appends}
 use Rattle.adsc_run.specs.Output.{AreLinkLines, downlink_lines, logon_line}
@@ -16,19 +17,19 @@ pub link_more : (setting : Setting) (entries : List Entry) (link : ℕ) (All : L
     → link < length setting.addresses
     → Continues (AreLinkLines setting entries link (drop link setting.addresses)) All before now
     → AreDownlinks setting entries link texts
-    → logged ≡ now ++ logon_line (address_of setting link)
+    → logged ≡ now ++ logon_line (address_of setting link) (logon_state link entries)
     → next ≡ logged ++ downlink_lines texts
     → Continues (AreLinkLines setting entries (link + 1) (drop (link + 1) setting.addresses)) All before next
 link_more setting entries link All texts before now logged next below so_far downlinks logon down behind others =
     let more = subst (λ k. AreLinkLines setting entries (link + 1) (drop k setting.addresses) behind) (add-one link) others in
-    let whole = so_far (logon_line (address_of setting link) ++ (downlink_lines texts ++ behind))
-    (subst (λ addresses. AreLinkLines setting entries link addresses (logon_line (address_of setting link) ++ (downlink_lines texts ++ behind)))
+    let whole = so_far (logon_line (address_of setting link) (logon_state link entries) ++ (downlink_lines texts ++ behind))
+    (subst (λ addresses. AreLinkLines setting entries link addresses (logon_line (address_of setting link) (logon_state link entries) ++ (downlink_lines texts ++ behind)))
     (sym (drop-cons setting.addresses link [] below)) (texts, behind, downlinks, more, refl)) in (
       whole.0,
       whole.1,
       ap (λ t. t ++ behind) (down ∙ ap (λ t. t ++ downlink_lines texts) logon)
-          ∙ append_assoc (now ++ logon_line (address_of setting link)) (downlink_lines texts) behind
-          ∙ append_assoc now (logon_line (address_of setting link)) (downlink_lines texts ++ behind)
+          ∙ append_assoc (now ++ logon_line (address_of setting link) (logon_state link entries)) (downlink_lines texts) behind
+          ∙ append_assoc now (logon_line (address_of setting link) (logon_state link entries)) (downlink_lines texts ++ behind)
           ∙ whole.2,
     )
 

@@ -11,23 +11,25 @@ use Rattle.adsc_requests.specs.declared.message.Uplink.{Uplink as UplinkMessages
 use Rattle.adsc_requests.specs.declared.refusal.Refusal.{Refusal}
 use Rattle.net_script.specs.declared.line.ScriptLine.{ScriptLine}
 use Rattle.net_script.specs.declared.line.ScriptLine.TheVariants as line
-use Rattle.aircraft_core.specs.Entries.{are_demands}
 use Rattle.aircraft_core.specs.declared.entry.Entry.{Entry}
-use Rattle.aircraft_core.specs.declared.entry.Entry.TheVariants.{Uplink}
+use Rattle.aircraft_core.specs.declared.entry.Entry.TheVariants.{Uplink, Answer}
 use Rattle.aircraft_core.specs.Setting.{Setting}
 use Rattle.adsc_run.specs.declared.end.End.{End as RunEnd}
-use Rattle.adsc_run.specs.declared.end.End.TheVariants.{Done, Limit, NotBuilt}
+use Rattle.adsc_run.specs.declared.end.End.TheVariants.{Done, Limit}
 use Rattle.adsc_run.specs.declared.flight.Flight.{Flight}
 use Rattle.adsc_run.specs.declared.reading.Reading.{Reading}
 use Rattle.adsc_run.specs.declared.reading.Reading.TheVariants.{Bad, Says, Brings}
-use Rattle.adsc_run.specs.declared.reading.AdsUplink.{AdsUplink}
-use Rattle.adsc_run.specs.declared.reading.TextReading.{TextReading}
-use Rattle.adsc_run.specs.declared.reading.TextReading.TheVariants as text
+use Rattle.afn_logon.specs.declared.answer.Answer.{Answer as LogonAnswer}
+use Rattle.afn_logon.specs.declared.refusal.AfnRefusal.{AfnRefusal}
+use Rattle.ground_texts.specs.declared.ground_text.AdsUplink.{AdsUplink}
+use Rattle.ground_texts.specs.declared.ground_text.AfnUplink.{AfnUplink}
+use Rattle.ground_texts.specs.declared.ground_text.GroundText.{GroundText}
+use Rattle.ground_texts.specs.declared.ground_text.GroundText.TheVariants as text
 use Rattle.adsc_run.specs.declared.refused.RefusedWhy.TheVariants as why
 use Rattle.adsc_run.specs.declared.refused.RefusedLine.{RefusedLine}
 use Rattle.adsc_run.specs.Readings.{ReadsLine}
 use Rattle.adsc_run.specs.Runs.{Run, IsRun, LinesRun, StepRuns, after, end_behind, ended_run}
-use Rattle.adsc_run.specs.Steps.{Stage, begun, named, linked, flying, Step, goes, ends, enters, refuses, link_from, same_text, registration_place, payload_step, uplink_step, text_step, line_step, step_of}
+use Rattle.adsc_run.specs.Steps.{Stage, begun, named, linked, flying, Step, goes, ends, enters, answer_step, characters_step, flight_place, flight_step, logon_step, notice_step, refuses, link_from, same_text, registration_place, payload_step, uplink_step, text_step, line_step, step_of}
 use Rattle.adsc_run.specs.Taken.{Did, DidLine}
 use Rattle.adsc_io.proofs.LimitLaws.{before_more, over_by_bytes}
 
@@ -144,11 +146,7 @@ is_done step = false
 
 payload_goes : (setting : Setting) (number : ℕ) (entry : Entry) (asked : Result UplinkMessages Refusal) → is_done (payload_step setting number entry asked) ≡ false
 unfolding is_done
-payload_goes setting number entry (Ok uplink) = at (are_demands uplink)
-  where
-    at : (b : Bool) → is_done (if b then enters setting entry else ends NotBuilt) ≡ false
-    at true = refl
-    at false = refl
+payload_goes setting number entry (Ok uplink) = refl
 payload_goes setting number entry (Err refusal) = refl
 
 uplink_goes : (setting : Setting) (number : ℕ) (uplink : AdsUplink) (link : Option ℕ) → is_done (uplink_step setting number uplink link) ≡ false
@@ -160,22 +158,56 @@ uplink_goes setting number uplink (Some link) = at (same_text uplink.registratio
     at true = payload_goes setting number (Uplink number link uplink.octets) uplink.asked
     at false = refl
 
-text_goes : (setting : Setting) (number : ℕ) (reading : TextReading) → is_done (text_step setting number reading) ≡ false
+answer_goes : (setting : Setting) (number link : ℕ) (answer : LogonAnswer) → is_done (answer_step setting number link answer) ≡ false
+unfolding is_done
+answer_goes setting number link answer = at (same_text answer.registration setting.registration)
+  where
+    at : (b : Bool) → is_done (if b then enters setting (Answer number link answer.code)
+        else refuses setting number (why.OtherRegistration (flight_place + length answer.flight + 1))) ≡ false
+    at true = refl
+    at false = refl
+
+characters_go : (setting : Setting) (number link : ℕ) (answer : Result LogonAnswer AfnRefusal) → is_done (characters_step setting number link answer) ≡ false
+unfolding is_done
+characters_go setting number link (Ok answer) = answer_goes setting number link answer
+characters_go setting number link (Err refusal) = refl
+
+notice_goes : (setting : Setting) (number : ℕ) (notice : AfnUplink) (link : Option ℕ) → is_done (notice_step setting number notice link) ≡ false
+unfolding is_done
+notice_goes setting number notice None = refl
+notice_goes setting number notice (Some link) = characters_go setting number link notice.answer
+
+text_goes : (setting : Setting) (number : ℕ) (reading : GroundText) → is_done (text_step setting number reading) ≡ false
 unfolding is_done
 text_goes setting number (text.Refused fault) = refl
-text_goes setting number text.Afn = refl
+text_goes setting number (text.Afn notice) = notice_goes setting number notice (link_from 0 setting.addresses notice.address)
 text_goes setting number (text.Ads uplink) = uplink_goes setting number uplink (link_from 0 setting.addresses uplink.address)
+
+logon_goes : (setting : Setting) (number : ℕ) (link : Option ℕ) → is_done (logon_step setting number link) ≡ false
+unfolding is_done
+logon_goes setting number None = refl
+logon_goes setting number (Some link) = refl
+
+flight_goes : (setting : Setting) (number : ℕ) (value : ScriptLine) → is_done (flight_step setting number value) ≡ false
+unfolding is_done
+flight_goes setting number (line.S sample) = refl
+flight_goes setting number (line.T moment) = refl
+flight_goes setting number (line.E on) = refl
+flight_goes setting number (line.L address) = logon_goes setting number (link_from 0 setting.addresses address)
+flight_goes setting number (line.C address request) = refl
+flight_goes setting number (line.K address cancel) = refl
+flight_goes setting number (line.B address place) = refl
+flight_goes setting number (line.R address place) = refl
+flight_goes setting number (line.A who) = refl
+flight_goes setting number (line.G addresses reserved) = refl
+flight_goes setting number (line.U from) = refl
 
 line_goes : (stage : Stage) (number : ℕ) (value : ScriptLine) → is_done (line_step stage number value) ≡ false
 unfolding is_done
 line_goes begun number (line.A who) = refl
-line_goes (named who) number (line.G addresses reserved) = at (length addresses.items == 1)
-  where
-    at : (b : Bool) → is_done (if b then goes (linked who addresses.items) [] [] else ends NotBuilt) ≡ false
-    at true = refl
-    at false = refl
-line_goes (linked who addresses) number (line.S sample) = refl
-line_goes (flying setting) number (line.S sample) = refl
+line_goes (named who) number (line.G addresses reserved) = refl
+line_goes (linked who addresses kept) number (line.S sample) = refl
+line_goes (flying setting) number value = flight_goes setting number value
 line_goes stage number value = refl
 
 -- no line ends a run as done

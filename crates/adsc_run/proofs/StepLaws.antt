@@ -1,19 +1,31 @@
 -- The laws of what a text does.
-use Rattle.std.proofs.Common.{◌≡◌, ℕ, suc, ◌+◌, ◌<◌, Bool, true, false, if◌then◌else◌, List, [], length, drop, get_or, Some, Result, Ok, Err, inl, inr, sym, ap, ◌∙◌, subst, add-one}
+use Rattle.std.proofs.Common.{arith, ◌≡◌, ℕ, suc, ◌+◌, ◌<◌, Bool, true, false, if◌then◌else◌, List, [], length, drop, get_or, Some, inl, inr, sym, ap, ◌∙◌, add-one, subst, ◌≤◌}
 use Rattle.std.proofs.Math.Seq.{drop-cons}
 use Rattle.std.proofs.lemmas.Bool.{cases_Bool}
 use Rattle.std.proofs.lemmas.Bool.Decides.{Decides-eqb}
-use Rattle.adsc_requests.specs.Contents.{contents_of}
-use Rattle.adsc_requests.specs.Grammar.{EncodesUplink}
-use Rattle.adsc_requests.specs.declared.message.Uplink.{Uplink as UplinkMessages}
-use Rattle.adsc_requests.specs.declared.refusal.Refusal.{Refusal}
-use Rattle.adsc_requests.proofs.Injective.{same_contents}
-use Rattle.adsc_requests.proofs.ReadingLaws.{one_reading, uplink_never_fault}
-use Rattle.aircraft_core.specs.Entries.{are_demands, IsBuiltPayload}
 use Rattle.std.specs.Prelude.{nat_eq}
 use Rattle.contract_rules.proofs.Equality.{equality_of_lists}
-use Rattle.adsc_run.specs.Readings.{ReadsPayload}
+use Rattle.arrayvec.specs.ArrayVec.{ArrayVec}
+use Rattle.std.specs.Prelude.{nat_le, Result, Ok, Err}
+use Rattle.std.specs.List.{list_all}
+use Rattle.std.proofs.lemmas.Bool.{and_parts}
+use Rattle.std.proofs.lemmas.Bool.Decides.{nat_tests}
+use Rattle.acars_envelope.specs.Bodies.{is_body_size, is_text_character, is_well_formed}
+use Rattle.acars_envelope.specs.declared.texts.Body.{Body}
+use Rattle.acars_envelope.specs.declared.texts.Body.TheVariants as body
+use Rattle.net_script.specs.declared.line.ScriptLine.{ScriptLine}
+use Rattle.net_script.specs.declared.line.ScriptLine.TheVariants as line
+use Rattle.afn_logon.specs.declared.answer.Answer.{Answer as LogonAnswer}
+use Rattle.afn_logon.specs.declared.refusal.AfnRefusal.{AfnRefusal}
+use Rattle.ground_texts.specs.Readings.{ReadsAnswer, ReadsBody, ReadsPayload, ReadsText}
+use Rattle.ground_texts.specs.declared.ground_text.AdsUplink.{AdsUplink}
+use Rattle.ground_texts.specs.declared.ground_text.AfnUplink.{AfnUplink}
+use Rattle.ground_texts.specs.declared.ground_text.GroundText.{GroundText}
+use Rattle.ground_texts.specs.declared.ground_text.GroundText.TheVariants as text
+use Rattle.adsc_run.specs.declared.reading.Reading.TheVariants.{Says}
+use Rattle.adsc_run.specs.Readings.{ReadsLine}
 use Rattle.adsc_run.specs.Steps.{link_from, same_text}
+use Rattle.adsc_run.specs.Taken.{IsReadAnswer, IsReadText, IsReadUplink, SaysRightly}
 
 -- the test of texts is equality
 pub text_is : (one other : List ℕ) → one ≡ other → same_text one other ≡ true
@@ -41,14 +53,35 @@ link_passed addresses address link below other so_far =
     ∙ ap (λ (b : Bool). if b then Some link else link_from (link + 1) (drop (suc link) addresses) address) (text_is_other _ address other)
     ∙ ap (λ k. link_from (link + 1) (drop k addresses) address) (sym (add-one link)))
 
--- a payload that is read as demands is one of demands alone
-pub demands_built : (payload : List ℕ) (asked : Result UplinkMessages Refusal) (uplink : UplinkMessages) → ReadsPayload payload asked → asked ≡ Ok uplink
-    → are_demands uplink ≡ true → IsBuiltPayload payload
-demands_built payload asked uplink reads is demands other encodes =
-    let here : EncodesUplink uplink payload = subst (λ a. ReadsPayload payload a) is reads in
-    subst (λ u. are_demands u ≡ true) (same_contents uplink other (one_reading payload (contents_of uplink) (contents_of other) here encodes)) demands
+-- an uplink that a text is has 1 to 255 octets
+uplink_is_read : (address : List ℕ) (found : Body) (uplink : AdsUplink) → is_well_formed found ≡ true → ReadsBody address found (text.Ads uplink) → IsReadUplink uplink
+uplink_is_read address (body.Ads registration payload) uplink formed reads =
+    let sizes = and_parts (nat_le 1 (length payload.items)) (nat_le (length payload.items) 255) formed in
+    let same : uplink.octets ≡ payload = reads.2 in
+    record {
+      reads = subst (λ (octets : ArrayVec ℕ). ReadsPayload octets.items uplink.asked) (sym same) reads.3;
+      some = subst (λ (octets : ArrayVec ℕ). 1 ≤ length octets.items) (sym same) (grind (arith, nat_tests, sizes.0));
+      few = subst (λ (octets : ArrayVec ℕ). length octets.items ≤ 255) (sym same) (grind (arith, nat_tests, sizes.1));
+    }
+uplink_is_read address (body.Afn found) uplink formed reads = absurd reads
 
--- a malformed payload is built
-pub fault_built : (payload : List ℕ) (asked : Result UplinkMessages Refusal) (refusal : Refusal) → ReadsPayload payload asked → asked ≡ Err refusal → IsBuiltPayload payload
-fault_built payload asked refusal reads is other encodes =
-    absurd (uplink_never_fault payload (other, encodes) (refusal, subst (λ a. ReadsPayload payload a) is reads))
+answer_is_read : (characters : List ℕ) (answer : Result LogonAnswer AfnRefusal) → length characters ≤ 255 → ReadsAnswer characters answer → IsReadAnswer answer
+answer_is_read characters (Ok answer) few reads = tt
+answer_is_read characters (Err refusal) few reads = omega (arith, few, reads.within)
+
+notice_is_read : (address : List ℕ) (found : Body) (notice : AfnUplink) → is_well_formed found ≡ true → ReadsBody address found (text.Afn notice) → IsReadAnswer notice.answer
+notice_is_read address (body.Afn characters) notice formed reads =
+    let sized = (and_parts (is_body_size (length characters.items)) (list_all is_text_character characters.items) formed).0 in
+    let few = (and_parts (nat_le 1 (length characters.items)) (nat_le (length characters.items) 255) sized).1 in
+    answer_is_read characters.items notice.answer (grind (arith, nat_tests, few)) reads.1
+notice_is_read address (body.Ads registration payload) notice formed reads = absurd reads
+
+pub text_is_read : (characters : List ℕ) (reading : GroundText) → ReadsText characters reading → IsReadText reading
+text_is_read characters (text.Refused fault) reads = tt
+text_is_read characters (text.Afn notice) (envelope, is, reads) = notice_is_read envelope.address envelope.body notice envelope.well_formed reads
+text_is_read characters (text.Ads uplink) (envelope, is, reads) = uplink_is_read envelope.address envelope.body uplink envelope.well_formed reads
+
+-- a line of a moment that is read so says a moment of the script's range
+pub says_rightly : (number : ℕ) (bytes : List ℕ) (value : ScriptLine) → ReadsLine number bytes (Says value) → SaysRightly value
+says_rightly number bytes (line.T moment) reads = omega (arith, reads.0.says.says.most)
+says_rightly number bytes value reads = tt

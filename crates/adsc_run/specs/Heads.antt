@@ -1,5 +1,6 @@
 -- The head of a script, line by line.
-use Rattle.std.specs.Prelude.{◌≡◌, ℕ, Bool, List, ◌∷◌}
+use Rattle.std.specs.Prelude.{◌≡◌, ◌<◌, ◌≤◌, ℕ, Bool, List, Option, ◌∷◌, length}
+use Rattle.std.specs.Option.{ForSome}
 use Rattle.net_script.specs.declared.line.ScriptLine.{ScriptLine}
 use Rattle.adsc_run.specs.declared.head.Stop.{Stop}
 use Rattle.adsc_run.specs.declared.head.Stop.TheVariants.{Ended, NoMemory}
@@ -12,6 +13,12 @@ use Rattle.adsc_run.specs.Steps.{Stage, begun, flying, Step, ends}
 abbrev pub IsInHead : Stage → Type 0
 IsInHead (flying setting) = ⊥
 IsInHead stage = Unit {0}
+
+-- An aircraft can have links to these addresses: there are 1 to 64, and the one for which a connection is kept, if any, is one of them.
+pub record AreLinks (addresses : List (List ℕ)) (kept : Option ℕ) : Type 0 where
+  pub some : 1 ≤ length addresses
+  pub few : length addresses ≤ 64
+  pub listed : ForSome kept (λ place. place < length addresses)
 
 -- The run of the first lines from their stage on is the run of the others from theirs on.
 abbrev pub GoesOn : Bool → Stage → ℕ → List (List ℕ) → Stage → ℕ → List (List ℕ) → Type 0

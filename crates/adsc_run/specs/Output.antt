@@ -6,7 +6,10 @@ use Rattle.net_script.specs.declared.refusal.Code.{Code}
 use Rattle.net_script.specs.declared.refusal.Code.TheVariants as code
 use Rattle.aircraft_core.specs.declared.entry.Entry.{Entry}
 use Rattle.aircraft_core.specs.Entries.{line_of}
+use Rattle.afn_logon.specs.declared.logon.Logon.{Logon}
+use Rattle.afn_logon.specs.declared.logon.Logon.TheVariants.{Nothing, Sent, Accepted, Rejected}
 use Rattle.aircraft_core.specs.Downlinks.{AreDownlinks}
+use Rattle.aircraft_core.specs.LogonStates.{logon_state}
 use Rattle.aircraft_core.specs.Setting.{Setting}
 use Rattle.output_fields.specs.Fields.{number_field}
 use Rattle.output_fields.specs.Faults.{envelope_fault_fields, request_fault_fields}
@@ -23,9 +26,16 @@ journal_line journal = ended (codes "J" ++ flat_map (λ entry. number_field (lin
 
 -- ---- the lines of a link
 
--- the line of a link's logon state, to which nobody has logged on
-abbrev pub logon_line : List ℕ → List ℕ
-logon_line address = ended (codes "L," ++ address ++ codes ",none")
+-- A logon state, a comma before it; a rejection has its code.
+abbrev pub logon_fields : Logon → List ℕ
+logon_fields Nothing = codes ",none"
+logon_fields Sent = codes ",sent"
+logon_fields Accepted = codes ",accepted"
+logon_fields (Rejected found) = codes ",rejected" ++ number_field found
+
+-- The line of a link's logon state.
+abbrev pub logon_line : List ℕ → Logon → List ℕ
+logon_line address logon = ended (codes "L," ++ address ++ logon_fields logon)
 
 -- the lines of a link's downlinks: `D` and a comma before each
 abbrev pub downlink_lines : List (List ℕ) → List ℕ
@@ -36,7 +46,7 @@ abbrev pub AreLinkLines : Setting → List Entry → ℕ → List (List ℕ) →
 AreLinkLines setting entries link [] text = text ≡ []
 AreLinkLines setting entries link (address ∷ addresses) text =
     (texts : List (List ℕ)) × (behind : List ℕ) × AreDownlinks setting entries link texts × AreLinkLines setting entries (link + 1) addresses behind
-    × (text ≡ logon_line address ++ (downlink_lines texts ++ behind))
+    × (text ≡ logon_line address (logon_state link entries) ++ (downlink_lines texts ++ behind))
 
 -- the lines of all links, where the aircraft flies
 abbrev pub AreLinesOfLinks : Option Setting → List Entry → List ℕ → Type 0
@@ -49,6 +59,7 @@ AreLinesOfLinks (Some setting) entries text = AreLinkLines setting entries 0 set
 abbrev pub why_fields : RefusedWhy → List ℕ
 why_fields (why.Envelope fault) = envelope_fault_fields fault
 why_fields why.UnknownAddress = codes "UNKNOWN,1"
+why_fields (why.NoAnswer place) = codes "TEXT" ++ number_field place
 why_fields (why.OtherRegistration place) = codes "OTHER" ++ number_field place
 why_fields (why.Bits refusal) = request_fault_fields refusal
 

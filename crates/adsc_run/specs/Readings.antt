@@ -1,16 +1,7 @@
--- What the lines of a script say, and what the texts in them say. The script language is this project's profile; texts follow
--- ARINC 622, payloads RTCA DO-258A / EUROCAE ED-100A.
-use Rattle.std.specs.Prelude.{◌≡◌, ◌⊎◌, ℕ, ◌<◌, ◌≤◌, List, drop, length, Result, Ok, Err}
+-- What the lines of a script say at their places. The script language is this project's profile.
+use Rattle.std.specs.Prelude.{◌≡◌, ◌⊎◌, ℕ, ◌<◌, ◌≤◌, List, drop, length}
 use Rattle.adsc_io.specs.Limits.{max_line_bytes}
-use Rattle.acars_envelope.specs.declared.texts.Body.{Body}
-use Rattle.acars_envelope.specs.declared.texts.Body.TheVariants as body
-use Rattle.acars_envelope.specs.declared.texts.Envelope.{Envelope}
-use Rattle.acars_envelope.specs.Faults.{IsFirstEnvelopeFault}
-use Rattle.acars_envelope.specs.Texts.{IsEnvelopeText}
-use Rattle.adsc_requests.specs.Grammar.{EncodesUplink}
-use Rattle.adsc_requests.specs.Refusals.{IsFirstUplinkFault}
-use Rattle.adsc_requests.specs.declared.message.Uplink.{Uplink}
-use Rattle.adsc_requests.specs.declared.refusal.Refusal.{Refusal}
+use Rattle.ground_texts.specs.Readings.{ReadsText}
 use Rattle.net_script.specs.Faults.{IsFirstLineFault}
 use Rattle.net_script.specs.Lines.{IsScriptLine}
 use Rattle.net_script.specs.declared.line.ScriptLine.{ScriptLine}
@@ -20,29 +11,6 @@ use Rattle.net_script.specs.declared.refusal.Code.TheVariants as code
 use Rattle.adsc_run.specs.Places.{IsMisplaced, IsInPlace}
 use Rattle.adsc_run.specs.declared.reading.Reading.{Reading}
 use Rattle.adsc_run.specs.declared.reading.Reading.TheVariants.{Bad, Says, Brings}
-use Rattle.adsc_run.specs.declared.reading.TextReading.{TextReading}
-use Rattle.adsc_run.specs.declared.reading.TextReading.TheVariants as text
-
--- ---- texts
-
--- A payload is read as the uplink that it encodes, or as its first fault.
-abbrev pub ReadsPayload : List ℕ → Result Uplink Refusal → Type 0
-ReadsPayload octets (Ok uplink) = EncodesUplink uplink octets
-ReadsPayload octets (Err refusal) = IsFirstUplinkFault refusal octets
-
--- The body of an envelope to this address is read as an uplink of the application ADS, or is one of the application AFN.
-abbrev pub ReadsBody : List ℕ → Body → TextReading → Type 0
-ReadsBody address (body.Ads registration payload) (text.Ads uplink) =
-    (uplink.address ≡ address) × (uplink.registration ≡ registration) × (uplink.octets ≡ payload) × ReadsPayload payload.items uplink.asked
-ReadsBody address (body.Afn characters) text.Afn = Unit {0}
-ReadsBody address found reading = ⊥
-
--- A text is read as the first bad place of its envelope, or as what its envelope carries.
-abbrev pub ReadsText : List ℕ → TextReading → Type 0
-ReadsText characters (text.Refused fault) = IsFirstEnvelopeFault characters fault
-ReadsText characters reading = (envelope : Envelope) × IsEnvelopeText envelope characters × ReadsBody envelope.address envelope.body reading
-
--- ---- lines
 
 -- The line of this number is bad, with this code and value: too long; else misplaced; else by the first fault of its form.
 abbrev pub IsBadLine : ℕ → List ℕ → Code → ℕ → Type 0

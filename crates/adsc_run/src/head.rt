@@ -1,18 +1,18 @@
 //! The head of a script: its three first lines, which make the aircraft.
-ghost use Rattle.std.specs.Prelude.{◌≡◌, ◌≢◌, ◌∷◌, ℕ, List, [], drop, length, IfOk, IfErr};
+ghost use Rattle.std.specs.Prelude.{◌≡◌, ◌≤◌, ℕ, List, Option, [], drop, length, IfOk, IfErr};
 ghost use Rattle.adsc_io.specs.Lines.{script_lines};
-ghost use Rattle.adsc_run.specs.Heads.{BeginsSaying, EndsHere, EndsStep, GoesOn, IsInHead};
+ghost use Rattle.net_script.specs.declared.line.ScriptLine.TheVariants as line;
+ghost use Rattle.adsc_run.specs.Heads.{AreLinks, BeginsSaying, EndsHere, EndsStep, GoesOn, IsInHead};
 ghost use Rattle.adsc_run.specs.Runs.{end_behind};
 ghost use Rattle.adsc_run.specs.Steps.{Stage, begun, named, linked, flying, goes, line_step, setting_with};
 ghost use Rattle.aircraft_core.specs.declared.who.Who.{Who as WhoValue};
 
 use crate::end::End;
 use crate::reading::{Reading, read_line};
-use acars_envelope::{Address, Flight};
 use adsc_io::{NoMemory, next_line};
 use aircraft_core::{Craft, Who};
 use flight_samples::{Sample, SampleReader};
-use net_script::{BadLine, Code, ScriptLine};
+use net_script::{Addresses, BadLine, Code, ScriptLine};
 use std::alloc::Global;
 
 /// Why the head makes no aircraft.
@@ -24,6 +24,13 @@ pub(crate) enum Stop {
     NoMemory,
 }
 
+/// The ground addresses of the second line, and the place in them of the one for which a connection is kept, if any.
+#[derive(Drop)]
+pub(crate) struct GroundLinks {
+    pub(crate) addresses: Addresses,
+    pub(crate) reserved: Option<u8>,
+}
+
 /// The aircraft that the head makes.
 pub(crate) fn read_head(
     samples: &mut SampleReader,
@@ -32,16 +39,22 @@ pub(crate) fn read_head(
     over: bool,
 ) -> Result<Craft, Stop>
     ensures went { IfOk result (λ craft. GoesOn over begun 1 (script_lines lines.now) (flying craft.setting) 4 (drop 3 (script_lines lines.now))) }
-    ensures link { IfOk result (λ craft. length craft.setting.addresses ≡ 1) }
+    ensures links { IfOk result (λ craft. length craft.setting.addresses ≤ 64) }
     ensures first { IfOk result (λ craft. craft.journal ≡ []) }
     ensures ended { IfErr result (EndsHere over begun 1 (script_lines lines.now)) }
 {
     let who = read_who(samples, alloc, lines, over)?;
     let second = behind_line(lines);
-    let address = read_address(samples, alloc, &who, second, over)?;
+    let ground = read_ground(samples, alloc, &who, second, over)?;
     let third = behind_line(second);
     let first = read_first(samples, alloc, third, over)?;
-    match Craft::new(alloc, who, [address].as_slice(), first) {
+    match Craft::new(
+        alloc,
+        who,
+        ground.addresses.as_slice(),
+        ground.reserved,
+        first,
+    ) {
         Ok(craft) => Ok(craft),
         Err(NoMemory) => Err(Stop::NoMemory),
     }
@@ -75,69 +88,51 @@ fn read_who(
     ensures ended { IfErr result (EndsHere over begun 1 (script_lines lines.now)) }
 {
     let said = read_said(samples, alloc, 1, lines, over)?;
-    who_said(&said)
+    who_said(said)
 }
 
 /// Who the aircraft is, where the line says it.
-fn who_said(said: &ScriptLine) -> Result<Who, Stop>
-    ensures went { IfOk result (λ who. line_step begun 1 said.now ≡ goes (named who) [] []) }
-    ensures ended { IfErr result (EndsStep (line_step begun 1 said.now)) }
+fn who_said(said: ScriptLine) -> Result<Who, Stop>
+    ensures went { IfOk result (λ who. line_step begun 1 said ≡ goes (named who) [] []) }
+    ensures ended { IfErr result (EndsStep (line_step begun 1 said)) }
 {
-    match said {
-        ScriptLine::A(who) => Ok(same_aircraft(who)),
-        _ => Err(Stop::Ended(End::NotBuilt)),
+    if let ScriptLine::A(who) = said {
+        return Ok(who);
     }
+    Err(Stop::Ended(bad_line(1, Code::Head, 0)))
 }
 
-/// The same aircraft once more.
-fn same_aircraft(who: &Who) -> Who
-    ensures { result ≡ who.now }
-{
-    match Flight::new(who.flight.text()) {
-        Some(flight) => Who {
-            registration: who.registration,
-            flight,
-            airframe: who.airframe,
-            profile: who.profile,
-        },
-        None => unreachable!(),
-    }
-}
-
-/// The one ground address of the second line.
-fn read_address(
+/// The ground addresses of the second line.
+fn read_ground(
     samples: &mut SampleReader,
     alloc: Global,
     who: &Who,
     lines: &[u8],
     over: bool,
-) -> Result<Address, Stop>
-    ensures went { IfOk result (λ address. GoesOn over (named who.now) 2 (script_lines lines.now) (linked who.now (address ∷ [])) 3 (drop 1 (script_lines lines.now))) }
+) -> Result<GroundLinks, Stop>
+    ensures went { IfOk result (λ ground. GoesOn over (named who.now) 2 (script_lines lines.now)
+        (linked who.now ground.addresses.items ground.reserved) 3 (drop 1 (script_lines lines.now))) }
+    ensures links { IfOk result (λ ground. AreLinks ground.addresses.items ground.reserved) }
     ensures ended { IfErr result (EndsHere over (named who.now) 2 (script_lines lines.now)) }
 {
     let said = read_said(samples, alloc, 2, lines, over)?;
-    address_said(said)
+    ground_said(said)
 }
 
-/// The ground address, where the line says one alone; several are not built yet.
-fn address_said(said: ScriptLine) -> Result<Address, Stop>
-    ensures went { IfOk result (λ address. (who : WhoValue) → line_step (named who) 2 said ≡ goes (linked who (address ∷ [])) [] []) }
+/// The ground addresses, where the line says them.
+fn ground_said(said: ScriptLine) -> Result<GroundLinks, Stop>
+    ensures said { IfOk result (λ ground. said ≡ line.G ground.addresses ground.reserved) }
     ensures ended { IfErr result (λ stop. (who : WhoValue) → EndsStep (line_step (named who) 2 said) stop) }
 {
     match said {
-        ScriptLine::G { addresses, .. } => only_address(addresses.as_slice()),
-        _ => Err(Stop::Ended(End::NotBuilt)),
-    }
-}
-
-/// The address, where there is one alone.
-fn only_address(addresses: &[Address]) -> Result<Address, Stop>
-    ensures only { IfOk result (λ address. addresses.now ≡ address ∷ []) }
-    ensures several { IfErr result (λ stop. (stop ≡ Stop.Ended End.NotBuilt) × (length addresses.now ≢ 1)) }
-{
-    match addresses {
-        [address] => Ok(*address),
-        _ => Err(Stop::Ended(End::NotBuilt)),
+        ScriptLine::G {
+            addresses,
+            reserved,
+        } => Ok(GroundLinks {
+            addresses,
+            reserved,
+        }),
+        _ => Err(Stop::Ended(bad_line(2, Code::Head, 0))),
     }
 }
 
@@ -148,9 +143,11 @@ fn read_first(
     lines: &[u8],
     over: bool,
 ) -> Result<Sample, Stop>
-    ensures went { IfOk result (λ first. (who : WhoValue) (addresses : List (List ℕ))
-        → GoesOn over (linked who addresses) 3 (script_lines lines.now) (flying (setting_with who addresses first)) 4 (drop 1 (script_lines lines.now))) }
-    ensures ended { IfErr result (λ stop. (who : WhoValue) (addresses : List (List ℕ)) → EndsHere over (linked who addresses) 3 (script_lines lines.now) stop) }
+    ensures went { IfOk result (λ first. (who : WhoValue) (addresses : List (List ℕ)) (kept : Option ℕ)
+        → GoesOn over (linked who addresses kept) 3 (script_lines lines.now)
+        (flying (setting_with who addresses kept first)) 4 (drop 1 (script_lines lines.now))) }
+    ensures ended { IfErr result (λ stop. (who : WhoValue) (addresses : List (List ℕ)) (kept : Option ℕ)
+        → EndsHere over (linked who addresses kept) 3 (script_lines lines.now) stop) }
 {
     let said = read_said(samples, alloc, 3, lines, over)?;
     sample_said(said)
@@ -158,13 +155,14 @@ fn read_first(
 
 /// The sample, where the line says one.
 fn sample_said(said: ScriptLine) -> Result<Sample, Stop>
-    ensures went { IfOk result (λ first. (who : WhoValue) (addresses : List (List ℕ))
-        → line_step (linked who addresses) 3 said ≡ goes (flying (setting_with who addresses first)) [] []) }
-    ensures ended { IfErr result (λ stop. (who : WhoValue) (addresses : List (List ℕ)) → EndsStep (line_step (linked who addresses) 3 said) stop) }
+    ensures went { IfOk result (λ first. (who : WhoValue) (addresses : List (List ℕ)) (kept : Option ℕ)
+        → line_step (linked who addresses kept) 3 said ≡ goes (flying (setting_with who addresses kept first)) [] []) }
+    ensures ended { IfErr result (λ stop. (who : WhoValue) (addresses : List (List ℕ)) (kept : Option ℕ)
+        → EndsStep (line_step (linked who addresses kept) 3 said) stop) }
 {
     match said {
         ScriptLine::S(sample) => Ok(sample),
-        _ => Err(Stop::Ended(End::NotBuilt)),
+        _ => Err(Stop::Ended(bad_line(3, Code::Head, 0))),
     }
 }
 
@@ -185,7 +183,7 @@ fn read_said(
     match read_line(samples, alloc, number, line) {
         Ok(Reading::Says(said)) => Ok(said),
         Ok(Reading::Bad { code, value }) => Err(Stop::Ended(bad_line(number, code, value))),
-        Ok(Reading::Brings(_)) => Err(Stop::Ended(End::NotBuilt)),
+        Ok(Reading::Brings(_)) => Err(Stop::Ended(bad_line(number, Code::Head, 0))),
         Err(NoMemory) => Err(Stop::NoMemory),
     }
 }

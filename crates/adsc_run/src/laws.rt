@@ -13,6 +13,12 @@ pub fn a_line_has_one_reading()
         → ReadsLine number line one → ReadsLine number line other → one ≡ other }
 {}
 
+/// Each line is read in some way at its place, and each script has a run: whatever bytes it holds, the definitions say what it does.
+pub fn each_script_has_a_run()
+    ensures reading { (number : ℕ) (line : List ℕ) → (reading : ReadingValue) × ReadsLine number line reading }
+    ensures run { (bytes : List ℕ) → (run : Run) × IsRun bytes run }
+{}
+
 /// A script has at most one run: one journal, one list of refused texts and one end.
 pub fn a_script_has_one_run()
     ensures { (bytes : List ℕ) (one other : Run) → IsRun bytes one → IsRun bytes other → one ≡ other }

@@ -11,6 +11,8 @@
 //! `specs/Output.antt`; the code goes the same way: `reading`, `head` and `flight`, `run`, `output`.
 #![tactic(auto)]
 
+#[cfg(test)]
+mod contract_tests;
 mod end;
 mod flight;
 mod head;
@@ -25,12 +27,13 @@ mod refused;
 mod run;
 #[cfg(test)]
 mod run_tests;
-mod text;
 
 pub use end::End;
-pub use laws::{a_line_has_one_reading, a_script_has_one_output, a_script_has_one_run};
+pub use laws::{
+    a_line_has_one_reading, a_script_has_one_output, a_script_has_one_run, each_script_has_a_run,
+};
 pub use outcome::Outcome;
 pub use output::outcome_text;
-pub use reading::{AdsUplink, Reading, TextReading, read_line};
+pub use reading::{Reading, read_line};
 pub use refused::{RefusedLine, RefusedWhy};
 pub use run::{RunFault, run_script};

@@ -4,13 +4,14 @@ ghost use Rattle.adsc_io.specs.Lines.{script_lines, ended};
 ghost use Rattle.aircraft_core.specs.Entries.{line_of as line_of_entry};
 ghost use Rattle.output_fields.specs.Fields.{number_field};
 ghost use Rattle.adsc_run.specs.Appending.{Appends};
-ghost use Rattle.adsc_run.specs.Output.{AreLinesOfLinks, AreLinkLines, IsEndText, IsRunText, bad_line as bad_line_text, code_text, downlink_lines, journal_line, logon_line, refused_line, why_fields};
+ghost use Rattle.adsc_run.specs.Output.{AreLinesOfLinks, AreLinkLines, IsEndText, IsRunText, bad_line as bad_line_text, code_text, downlink_lines, journal_line, logon_fields, logon_line, refused_line, why_fields};
 ghost use Rattle.adsc_run.specs.OutcomeView.{journal_in, run_of, setting_in};
 
 use crate::end::End;
 use crate::outcome::Outcome;
 use crate::refused::{RefusedLine, RefusedWhy};
 use adsc_io::{NoMemory, next_line};
+use afn_logon::Logon;
 use aircraft_core::{Craft, Entry};
 use net_script::{BadLine, Code};
 use output_fields::{append_envelope_fault, append_number, append_request_fault};
@@ -55,7 +56,12 @@ fn line_of(entry: &Entry) -> u32
     ensures { result ≡ line_of_entry entry.now }
 {
     match entry {
-        Entry::Uplink { line, .. } | Entry::Sample { line, .. } => *line,
+        Entry::Uplink { line, .. }
+        | Entry::Answer { line, .. }
+        | Entry::Logon { line, .. }
+        | Entry::Sample { line, .. }
+        | Entry::Tick { line, .. }
+        | Entry::Crew { line, .. } => *line,
     }
 }
 
@@ -95,19 +101,39 @@ fn append_links(out: &mut Vec<u8>, craft: &Craft) -> Result<(), AllocError>
     ensures { OnOk result (Appends (AreLinkLines craft.now.setting craft.now.journal 0 craft.now.setting.addresses) out.old.items out.new.items) }
 {
     for link in 0..craft.links() {
-        append_logon(out, craft.address(link).seven().as_slice())?;
+        append_logon(
+            out,
+            craft.address(link).seven().as_slice(),
+            craft.logon(link),
+        )?;
         append_downlinks(out, craft.outbox(link))?;
     }
     Ok(())
 }
 
-/// Appends the line of a link to which nobody has logged on.
-fn append_logon(out: &mut Vec<u8>, address: &[u8]) -> Result<(), AllocError>
-    ensures { OnOk result (out.new.items ≡ out.old.items ++ logon_line address.now) }
+/// Appends the line of a link's logon state.
+fn append_logon(out: &mut Vec<u8>, address: &[u8], logon: Logon) -> Result<(), AllocError>
+    ensures { OnOk result (out.new.items ≡ out.old.items ++ logon_line address.now logon) }
 {
     out.extend_from_slice(b"L,")?;
     out.extend_from_slice(address)?;
-    out.extend_from_slice(b",none\n")
+    append_logon_fields(out, logon)?;
+    out.extend_from_slice(b"\n")
+}
+
+/// Appends a logon state, a comma before it.
+fn append_logon_fields(out: &mut Vec<u8>, logon: Logon) -> Result<(), AllocError>
+    ensures { OnOk result (out.new.items ≡ out.old.items ++ logon_fields logon) }
+{
+    match logon {
+        Logon::Nothing => out.extend_from_slice(b",none"),
+        Logon::Sent => out.extend_from_slice(b",sent"),
+        Logon::Accepted => out.extend_from_slice(b",accepted"),
+        Logon::Rejected { code } => {
+            out.extend_from_slice(b",rejected")?;
+            append_number(out, u32::from(code))
+        }
+    }
 }
 
 /// Appends a line for each downlink of an outbox, in which each text ends with a newline.
@@ -152,6 +178,10 @@ fn append_why(out: &mut Vec<u8>, why: &RefusedWhy) -> Result<(), AllocError>
     match why {
         RefusedWhy::Envelope(fault) => append_envelope_fault(out, fault),
         RefusedWhy::UnknownAddress => out.extend_from_slice(b"UNKNOWN,1"),
+        RefusedWhy::NoAnswer { place } => {
+            out.extend_from_slice(b"TEXT")?;
+            append_number(out, *place)
+        }
         RefusedWhy::OtherRegistration { place } => {
             out.extend_from_slice(b"OTHER")?;
             append_number(out, *place)

@@ -7,12 +7,9 @@ ghost use Rattle.adsc_run.specs.Places.{IsInPlace};
 ghost use Rattle.adsc_run.specs.Readings.{ReadsLine};
 
 use crate::placed::misplaced;
-use crate::text::read_text;
-use acars_envelope::{Address, EnvelopeRefusal, Registration};
 use adsc_io::{MAX_LINE_BYTES, NoMemory};
-use adsc_requests::{Refusal, Uplink};
-use arrayvec::ArrayVec;
 use flight_samples::SampleReader;
+use ground_texts::{GroundText, read_ground_text};
 use net_script::{Code, LineRefusal, ScriptLine, read_script_line};
 use std::alloc::Global;
 
@@ -29,31 +26,7 @@ pub enum Reading {
     /// A right line of any letter but `U`.
     Says(ScriptLine),
     /// A `U` line, with what its text says.
-    Brings(TextReading),
-}
-
-/// What a text from the ground says (ARINC 622).
-#[derive(Debug, Drop, PartialEq, Eq)]
-pub enum TextReading {
-    /// It is no envelope's text: its first bad place.
-    Refused(EnvelopeRefusal),
-    /// A text of the application AFN.
-    Afn,
-    /// An uplink of the application ADS.
-    Ads(AdsUplink),
-}
-
-/// An uplink of the application ADS (RTCA DO-258A / EUROCAE ED-100A, ARINC 622).
-#[derive(Debug, Drop, PartialEq, Eq)]
-pub struct AdsUplink {
-    /// The ground address that it comes from.
-    pub address: Address,
-    /// The aircraft that it is for.
-    pub registration: Registration,
-    /// Its payload, 1 to 255 octets.
-    pub octets: ArrayVec<u8, 255>,
-    /// What the payload asks, or its first fault.
-    pub asked: Result<Uplink, Refusal>,
+    Brings(GroundText),
 }
 
 /// Reads the line of this number, counted from 1: what it says, or why it is bad.
@@ -66,10 +39,10 @@ pub struct AdsUplink {
 /// 3. `Kind`: no line behind them has the letter `A` or `G`, whatever else it holds. The value is 0.
 /// 4. The form of the line, by the rules of [`read_script_line`] in their order: `Kind`, `Byte`, `Count`, `Field`, `Twice`.
 ///
-/// The text of a right `U` line is then read: the first bad place of its envelope, as [`acars_envelope::unseal`] tells it, or an
-/// AFN text, or an uplink of the application ADS. The payload of an uplink is read as [`adsc_requests::decode_uplink`] does: what
-/// it asks, or its first fault. A text or a payload that is refused leaves its line right. The script language is this project's
-/// profile; texts follow ARINC 622, payloads RTCA DO-258A / EUROCAE ED-100A.
+/// The text of a right `U` line is then read, as [`read_ground_text`] does: the first bad place of its envelope, an uplink of the
+/// application ADS with what its payload asks or its first fault, or a text of the application AFN. A text or a payload that is
+/// refused leaves its line right. The script language is this project's profile; texts follow ARINC 622, payloads RTCA DO-258A /
+/// EUROCAE ED-100A.
 ///
 /// `samples` reads the columns of sample lines; one serves all lines of a run.
 pub fn read_line(
@@ -100,7 +73,7 @@ fn read_placed(samples: &mut SampleReader, alloc: Global, line: &[u8]) -> Result
     ensures { (number : ℕ) → IsInPlace number line.now → IfOk result (ReadsLine number line.now) }
 {
     match read_script_line(samples, alloc, line) {
-        Ok(ScriptLine::U { from }) => Ok(Reading::Brings(read_text(bytes_from(line, from)))),
+        Ok(ScriptLine::U { from }) => Ok(Reading::Brings(read_ground_text(bytes_from(line, from)))),
         Ok(value) => Ok(Reading::Says(value)),
         Err(LineRefusal::Bad { code, value }) => Ok(Reading::Bad { code, value }),
         Err(LineRefusal::NoMemory) => Err(NoMemory),

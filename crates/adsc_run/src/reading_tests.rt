@@ -1,11 +1,10 @@
 //! Lines at places of a script, with what they say there or why they are bad.
 
 use super::*;
-use acars_envelope::{Address, EnvelopeRefusal, EnvelopeWhy, Registration};
+use acars_envelope::{Address, EnvelopeRefusal, EnvelopeWhy};
 use adsc_io::{NoMemory, next_line};
-use adsc_requests::{Message, Moduli, Refusal, Uplink};
-use arrayvec::ArrayVec;
 use flight_samples::SampleReader;
+use ground_texts::{GroundText, read_ground_text};
 use net_script::{Addresses, Code, ScriptLine};
 use std::alloc::AllocGlobal;
 use std::process::Abort;
@@ -135,18 +134,6 @@ fn lines_that_say_something(rt: HostRuntime) -> Result<(), Fail> {
     Ok(())
 }
 
-/// An uplink of the facility AKLCDYA for the aircraft N12345.
-fn uplink(rt: &impl Abort, octets: &[u8], asked: Result<Uplink, Refusal>) -> Reading {
-    let mut held = ArrayVec::new();
-    held.try_extend_from_slice(octets).expect(rt, "room");
-    Reading::Brings(TextReading::Ads(AdsUplink {
-        address: Address::new(b"AKLCDYA").expect(rt, "an address"),
-        registration: Registration::new(b"N12345").expect(rt, "a registration"),
-        octets: held,
-        asked,
-    }))
-}
-
 #[test]
 fn lines_that_bring_texts(rt: HostRuntime) {
     let slash = EnvelopeRefusal {
@@ -155,42 +142,10 @@ fn lines_that_bring_texts(rt: HostRuntime) {
     };
     assert_eq!(rt;
         read(&rt, 4, b"U,x"),
-        Ok(Reading::Brings(TextReading::Refused(slash)))
+        Ok(Reading::Brings(GroundText::Refused(slash)))
     );
-    let check = EnvelopeRefusal {
-        place: 23,
-        why: EnvelopeWhy::Check {
-            found: 0xbd4e,
-            due: 0xbd4f,
-        },
-    };
-    assert_eq!(rt;
-        read(&rt, 4, b"U,/AKLCDYA.ADS.N123450701BD4E"),
-        Ok(Reading::Brings(TextReading::Refused(check)))
-    );
-    let mut messages = ArrayVec::new();
-    messages.push(Message::Periodic {
-        n: 1,
-        interval: None,
-        groups: Moduli { m: [None; 6] },
-        intent: None,
-    });
     assert_eq!(rt;
         read(&rt, 5, b"U,/AKLCDYA.ADS.N123450701BD4F"),
-        Ok(uplink(&rt, b"\x07\x01", Ok(Uplink { messages })))
-    );
-    let malformed = Refusal {
-        bit: 32,
-        reason: 2,
-        number: 1,
-        octet: 5,
-    };
-    assert_eq!(rt;
-        read(&rt, 6, b"U,/AKLCDYA.ADS.N1234507010BA50BA5F332"),
-        Ok(uplink(&rt, b"\x07\x01\x0b\xa5\x0b\xa5", Err(malformed)))
-    );
-    assert_eq!(rt;
-        read(&rt, 7, b"U,/AKLCDYA.AFN/FMHANZ1,.N12345/FAK0/FARADS,05087"),
-        Ok(Reading::Brings(TextReading::Afn))
+        Ok(Reading::Brings(read_ground_text(b"/AKLCDYA.ADS.N123450701BD4F")))
     );
 }

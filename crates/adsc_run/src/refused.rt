@@ -10,6 +10,11 @@ pub enum RefusedWhy {
     Envelope(EnvelopeRefusal),
     /// Its ground address is none of the aircraft's links.
     UnknownAddress,
+    /// It is of the application AFN and no answer to a logon: the place in the text, counted from 0, with which no answer goes on.
+    NoAnswer {
+        /// The place.
+        place: u32,
+    },
     /// It is for an aircraft of another registration, which stands at this place of the text, counted from 0.
     OtherRegistration {
         /// The place.

@@ -84,7 +84,7 @@ fn fly(
     over: bool,
 ) -> Result<Outcome, NoMemory>
     requires few { length (script_lines lines.now) ≤ max_script_lines }
-    requires links { length craft.setting.addresses ≤ 16 }
+    requires links { length craft.setting.addresses ≤ 64 }
     requires first { craft.journal ≡ [] }
     ensures { IfOk result (λ outcome. LinesRun over (flying craft.setting) 4 (script_lines lines.now) (run_of outcome)) }
 {

@@ -8,11 +8,11 @@ use std::process::Abort;
 use std::test::Fail;
 
 /// The three first lines: who the aircraft is, its ground address, and a first sample of zeros.
-const HEAD: &str =
+pub(crate) const HEAD: &str =
     "A,N12345,ANZ1,C81234\nG,AKLCDYA\nS,0,0,0,0,0,0,0,0,0,0,0,0,0,0,0,0,0,0,0,0,0,0,0,0,0,0\n";
 
 /// What a script shows, its lines, and its output.
-type Case = (&'static str, &'static str, &'static str);
+pub(crate) type Case = (&'static str, &'static str, &'static str);
 
 /// How the run of a script ends, and its output.
 fn run(alloc: Global, script: &[u8]) -> Result<(End, Vec<u8>), Fail> {
@@ -25,7 +25,11 @@ fn run(alloc: Global, script: &[u8]) -> Result<(End, Vec<u8>), Fail> {
 }
 
 /// Runs each script, whose lines stand behind this head, and compares its output.
-fn compare(rt: &(impl Abort + AllocGlobal), head: &str, cases: &[Case]) -> Result<(), Fail> {
+pub(crate) fn compare(
+    rt: &(impl Abort + AllocGlobal),
+    head: &str,
+    cases: &[Case],
+) -> Result<(), Fail> {
     let alloc = rt.alloc();
     for (name, lines, output) in cases {
         let script = format!(in alloc; "{head}{lines}")?;
@@ -360,7 +364,7 @@ fn bad_lines_behind_the_head(rt: HostRuntime) -> Result<(), Fail> {
         ),
         (
             "a bad line before one that is not built",
-            "U,/AKLCDYA.ADS.N123450701BD4F\nT,-1\nT,0\n",
+            "U,/AKLCDYA.ADS.N123450701BD4F\nT,-1\nK,AKLCDYA,A\n",
             "J,4\nBAD,5,FIELD,1\n",
         ),
     ];
@@ -383,26 +387,8 @@ fn not_built(
 }
 
 #[test]
-fn heads_that_are_not_built(rt: HostRuntime) -> Result<(), Fail> {
-    let cases: [(&str, &str); 2] = [
-        (
-            "two ground addresses",
-            "A,N12345,ANZ1,C81234\nG,AKLCDYA,NFFNDYA\nS,0,0,0,0,0,0,0,0,0,0,0,0,0,0,0,0,0,0,0,0,0,0,0,0,0,0\n",
-        ),
-        (
-            "two ground addresses before a bad line",
-            "A,N12345,ANZ1,C81234\nG,AKLCDYA,NFFNDYA\nS\n",
-        ),
-    ];
-    not_built(&rt, "", &cases)
-}
-
-#[test]
 fn lines_that_are_not_built(rt: HostRuntime) -> Result<(), Fail> {
-    let cases: [(&str, &str); 16] = [
-        ("a time", "T,0\n"),
-        ("an emergency of the crew", "E,1\n"),
-        ("a logon", "L,AKLCDYA\n"),
+    let cases: [(&str, &str); 6] = [
         ("a request of a facility", "C,AKLCDYA,0700\n"),
         ("a cancel of a facility", "K,AKLCDYA,A\n"),
         ("a message that is brought to the aircraft", "B,AKLCDYA,1\n"),
@@ -411,26 +397,10 @@ fn lines_that_are_not_built(rt: HostRuntime) -> Result<(), Fail> {
             "R,AKLCDYA,1\n",
         ),
         (
-            "a text of the application AFN",
-            "U,/AKLCDYA.AFN/FMHANZ1,.N12345/FAK0/FARADS,05087\n",
+            "a cancel behind what is carried out",
+            "S,1,-1,2,3,0,0,0,0,0,0,0,0,0,0,0,0,0,0,0,0,0,0,0,0,0,0\nU,/AKLCDYA.ADS.N123450701BD4F\nU,x\nK,AKLCDYA,A\n",
         ),
-        ("a cancel", "U,/AKLCDYA.ADS.N123450209C3B2\n"),
-        ("a cancel of all contracts", "U,/AKLCDYA.ADS.N1234501256D\n"),
-        ("an event request", "U,/AKLCDYA.ADS.N1234508011459FD\n"),
-        ("an emergency request", "U,/AKLCDYA.ADS.N1234509019E40\n"),
-        (
-            "a request with an interval",
-            "U,/AKLCDYA.ADS.N1234507010BA50A3F\n",
-        ),
-        (
-            "a demand, and a request with an interval in the same text",
-            "U,/AKLCDYA.ADS.N12345070107020BA5840C\n",
-        ),
-        (
-            "a time behind what is carried out",
-            "S,1,-1,2,3,0,0,0,0,0,0,0,0,0,0,0,0,0,0,0,0,0,0,0,0,0,0\nU,/AKLCDYA.ADS.N123450701BD4F\nU,x\nT,0\n",
-        ),
-        ("a time before a bad line", "T,0\nT,-1\n"),
+        ("a cancel before a bad line", "K,AKLCDYA,A\nT,-1\n"),
     ];
     not_built(&rt, HEAD, &cases)
 }

@@ -37,7 +37,7 @@ eight : (codes : List ℕ) → length codes ≡ 8
 eight (a ∷ b ∷ c ∷ d ∷ e ∷ f ∷ g ∷ h ∷ []) size = refl
 eight _ size = absurd (omega arith)
 
-pub length-flight_codes : (flight : List ℕ) → length flight ≤ 8 → length (flight_codes flight) ≡ 8
+length-flight_codes : (flight : List ℕ) → length flight ≤ 8 → length (flight_codes flight) ≡ 8
 length-flight_codes flight few =
     omega (
       arith,

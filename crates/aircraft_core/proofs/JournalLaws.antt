@@ -1,31 +1,31 @@
 -- A journal with one more entry.
-use Rattle.std.proofs.Common.{◌≡◌, ℕ, suc, Bool, true, List, [], ◌∷◌, ◌++◌, length, append-nil, append_assoc, refl, ap, ap₂, sym, ◌∙◌, subst, arith}
-use Rattle.std.specs.List.{All, list_all}
-use Rattle.std.proofs.lemmas.List.Elements.{All-append}
-use Rattle.adsc_io.specs.Lines.{newline, ended_lines, IsUnbroken}
+use Rattle.std.proofs.Common.{◌≡◌, ℕ, suc, ◌+◌, get_or, take, ◌<◌, ◌≤◌, List, [], ◌∷◌, ◌++◌, All, length, flat_map, reverse, append-nil, append_assoc, refl, ap, sym, ◌∙◌, subst, arith}
+use Rattle.std.proofs.lemmas.List.{reverse-append, take_more}
+use Rattle.std.proofs.lemmas.List.Concat.{flat_map-append}
+use Rattle.std.proofs.lemmas.List.Elements.{All-append, All-nil}
+use Rattle.adsc_io.specs.Lines.{newline, ended_lines, script_lines, IsUnbroken}
+use Rattle.adsc_io.proofs.LinesLaws.{script_lines-ended}
 use Rattle.contract_rules.specs.Acts.{Act}
-use Rattle.contract_rules.specs.LiveLinks.{Noted, is_live}
+use Rattle.contract_rules.specs.LiveLinks.{Noted}
 use Rattle.contract_rules.specs.Verdicts.{past_of, past_with}
-use Rattle.contract_rules.specs.Due.{Item, entry_items, history_items}
+use Rattle.contract_table.specs.Tables.{TableState, StandsFor}
 use Rattle.flight_samples.specs.declared.sample.Sample.{Sample as FlightSample}
 use Rattle.aircraft_core.specs.declared.entry.Entry.{Entry}
-use Rattle.aircraft_core.specs.Downlinks.{EntryActs, JournalActs, entry_texts, journal_texts}
-use Rattle.aircraft_core.specs.Entries.{latest_after}
 use Rattle.aircraft_core.specs.CraftFields.{KeepsDownlinks}
-use Rattle.aircraft_core.specs.Quiet.{is_quiet, quiet_items, live_after, latest_of, told_with, told_after}
-use Rattle.aircraft_core.specs.Setting.{Setting, configuration}
-use Rattle.aircraft_core.specs.Taking.{IsTaken}
-use Rattle.aircraft_core.proofs.QuietLaws.{told_quiet, past_told, entry_due, entry_live}
+use Rattle.aircraft_core.specs.Downlinks.{AreDownlinks, entry_texts, journal_texts}
+use Rattle.aircraft_core.specs.Entries.{latest_after, latest_of}
+use Rattle.aircraft_core.specs.JournalActs.{EntryActs, JournalActs, newest_first}
+use Rattle.aircraft_core.specs.Outboxes.{OutboxState, outbox_of}
+use Rattle.aircraft_core.specs.Setting.{Setting, configuration_of}
+use Rattle.aircraft_core.specs.Taking.{IsTableOf, IsTaken}
+use Rattle.aircraft_core.proofs.HearingLaws.{past_with-past_of}
+use Rattle.aircraft_core.proofs.OneList.{same_acts}
 
 -- ---- acts
 
 latest_of-more : (latest : FlightSample) (journal : List Entry) (entry : Entry) → latest_of latest (journal ++ entry ∷ []) ≡ latest_after (latest_of latest journal) entry
 latest_of-more latest [] entry = refl
 latest_of-more latest (e ∷ journal) entry = latest_of-more (latest_after latest e) journal entry
-
-told_after-more : (told : List Act) (acts : List (List Act)) (more : List Act) → told_after told (acts ++ more ∷ []) ≡ told_with (told_after told acts) more
-told_after-more told [] more = refl
-told_after-more told (a ∷ acts) more = told_after-more (told_with told a) acts more
 
 JournalActs-more : (latest : FlightSample) (journal : List Entry) (entry : Entry) (acts : List (List Act)) (more : List Act)
     → JournalActs latest journal acts → EntryActs (latest_of latest journal) entry more → JournalActs latest (journal ++ entry ∷ []) (acts ++ more ∷ [])
@@ -40,35 +40,41 @@ JournalActs-length latest [] (a ∷ acts) are = cc
 JournalActs-length latest (e ∷ journal) [] are = absurd are
 JournalActs-length latest (e ∷ journal) (a ∷ acts) are = ap suc (JournalActs-length (latest_after latest e) journal acts are.1)
 
--- ---- items
-
-length-history_items : (past : List Noted) (acts : List (List Act)) → length (history_items configuration 0 past acts) ≡ length acts
-length-history_items past [] = refl
-length-history_items past (a ∷ acts) = ap suc (length-history_items (past_with configuration past a) acts)
-
-history_items-more : (told : List Act) (acts : List (List Act)) (more : List Act)
-    → history_items configuration 0 (past_of configuration told) (acts ++ more ∷ []) ≡ history_items configuration 0 (past_of configuration told) acts ++ entry_items configuration 0 (past_of configuration (told_after told acts)) more ∷ []
-history_items-more told [] more = refl
-history_items-more told (a ∷ acts) more =
-    ap (λ items. entry_items configuration 0 (past_of configuration told) a ∷ items)
-    (ap (λ past. history_items configuration 0 past (acts ++ more ∷ [])) (past_told told a)
-    ∙ history_items-more (told_with told a) acts more
-    ∙ ap (λ past. history_items configuration 0 past acts ++ entry_items configuration 0 (past_of configuration (told_after (told_with told a) acts)) more ∷ []) (sym (past_told told a)))
+-- The acts of one entry more stand in front, the newest first.
+newest_first-more : (acts : List (List Act)) (more : List Act) → newest_first (acts ++ more ∷ []) ≡ reverse more ++ newest_first acts
+newest_first-more acts more =
+    ap reverse (flat_map-append (λ (each : List Act). each) acts (more ∷ []) ∙ ap (λ rest. flat_map (λ (each : List Act). each) acts ++ rest) (append-nil more))
+    ∙ reverse-append (flat_map (λ (each : List Act). each) acts) more
 
 -- ---- texts
 
-journal_texts-more : (setting : Setting) (latest : FlightSample) (journal : List Entry) (entry : Entry) (items : List (List Item)) (more : List Item)
-    → length journal ≡ length items
-    → journal_texts setting 0 latest (journal ++ entry ∷ []) (items ++ more ∷ [])
-    ≡ journal_texts setting 0 latest journal items ++ entry_texts setting 0 (latest_after (latest_of latest journal) entry) more
-journal_texts-more setting latest [] entry [] more same = append-nil (entry_texts setting 0 (latest_after latest entry) more)
-journal_texts-more setting latest [] entry (i ∷ items) more same = absurd (omega arith)
-journal_texts-more setting latest (e ∷ journal) entry [] more same = absurd (omega arith)
-journal_texts-more setting latest (e ∷ journal) entry (i ∷ items) more same =
-    let here = entry_texts setting 0 (latest_after latest e) i in
-    let before = journal_texts setting 0 (latest_after latest e) journal items in
-    ap (λ texts. here ++ texts) (journal_texts-more setting (latest_after latest e) journal entry items more (omega arith))
-    ∙ sym (append_assoc here before (entry_texts setting 0 (latest_after (latest_of (latest_after latest e) journal) entry) more))
+-- The past of several entries, the oldest first.
+abbrev past_after : Setting → List Noted → List (List Act) → List Noted
+past_after setting past [] = past
+past_after setting past (acts ∷ others) = past_after setting (past_with (configuration_of setting) past acts) others
+
+past_after-told : (setting : Setting) (told : List Act) (acts : List (List Act))
+    → past_after setting (past_of (configuration_of setting) told) acts ≡ past_of (configuration_of setting) (newest_first acts ++ told)
+past_after-told setting told [] = refl
+past_after-told setting told (a ∷ acts) =
+    ap (λ past. past_after setting past acts) (past_with-past_of (configuration_of setting) told a)
+    ∙ past_after-told setting (reverse a ++ told) acts
+    ∙ ap (past_of (configuration_of setting)) (sym (append_assoc (newest_first acts) (reverse a) told)
+    ∙ ap (λ front. front ++ told) (sym (reverse-append a (flat_map (λ (each : List Act). each) acts))))
+
+journal_texts-more : (setting : Setting) (link : ℕ) (past : List Noted) (latest : FlightSample) (journal : List Entry) (entry : Entry) (acts : List (List Act)) (more : List Act)
+    → length journal ≡ length acts
+    → journal_texts setting link past latest (journal ++ entry ∷ []) (acts ++ more ∷ [])
+    ≡ journal_texts setting link past latest journal acts ++ entry_texts setting link (past_after setting past acts) (latest_of latest journal) entry more
+journal_texts-more setting link past latest [] entry [] more same = append-nil (entry_texts setting link past latest entry more)
+journal_texts-more setting link past latest [] entry (a ∷ acts) more same = absurd (omega arith)
+journal_texts-more setting link past latest (e ∷ journal) entry [] more same = absurd (omega arith)
+journal_texts-more setting link past latest (e ∷ journal) entry (a ∷ acts) more same =
+    let now = past_with (configuration_of setting) past a in
+    let next = latest_after latest e in
+    ap (λ texts. entry_texts setting link past latest e a ++ texts) (journal_texts-more setting link now next journal entry acts more (omega arith))
+    ∙ sym (append_assoc (entry_texts setting link past latest e a) (journal_texts setting link now next journal acts)
+    (entry_texts setting link (past_after setting now acts) (latest_of next journal) entry more))
 
 ended_lines-append : (front back : List (List ℕ)) → ended_lines (front ++ back) ≡ ended_lines front ++ ended_lines back
 ended_lines-append [] back = refl
@@ -77,36 +83,121 @@ ended_lines-append (line ∷ front) back =
 
 -- ---- what the aircraft keeps
 
--- an entry adds the texts of what it makes due
-texts-more : (setting : Setting) (journal : List Entry) (entry : Entry) (latest : FlightSample) (live : Bool) (outbox : List ℕ)
-    → (keeps : KeepsDownlinks setting journal latest live outbox) → (more : List Act) → list_all is_quiet more ≡ true
-    → journal_texts setting 0 setting.first (journal ++ entry ∷ []) (history_items configuration 0 [] (keeps.acts ++ more ∷ []))
-    ≡ journal_texts setting 0 setting.first journal (history_items configuration 0 [] keeps.acts) ++ entry_texts setting 0 (latest_after latest entry) (quiet_items live more)
-texts-more setting journal entry latest live outbox keeps more quiet =
-    let told = told_after [] keeps.acts in
-    let before = history_items configuration 0 [] keeps.acts in
-    let size : length journal ≡ length before = JournalActs-length setting.first journal keeps.acts keeps.are_acts ∙ sym (length-history_items [] keeps.acts) in
-    let due : entry_items configuration 0 (past_of configuration told) more ≡ quiet_items live more = entry_due told more keeps.quiet quiet ∙ ap (λ l. quiet_items l more) (sym keeps.lives) in
-    ap (λ items. journal_texts setting 0 setting.first (journal ++ entry ∷ []) items) (history_items-more [] keeps.acts more)
-    ∙ journal_texts-more setting setting.first journal entry before (entry_items configuration 0 (past_of configuration told) more) size
-    ∙ ap₂ (λ sample items. journal_texts setting 0 setting.first journal before ++ entry_texts setting 0 (latest_after sample entry) items) (sym keeps.last) due
+module _ (setting : Setting) (journal : List Entry) (entry : Entry) (latest now_latest : FlightSample) (table now_table : TableState) (outboxes now_outboxes : List OutboxState)
+    (keeps : KeepsDownlinks setting journal latest table outboxes) (taken : IsTaken setting entry latest now_latest table now_table outboxes now_outboxes)
+    (of_table : IsTableOf setting now_table) (each_link : length now_outboxes ≡ length outboxes) where
+  -- An entry adds its texts.
+  abbrev added : ℕ → List (List ℕ)
+  added link = entry_texts setting link (past_of (configuration_of setting) (newest_first keeps.acts)) latest entry taken.acts
 
-pub kept_on : (setting : Setting) (journal : List Entry) (entry : Entry) (latest now_latest : FlightSample) (live now_live : Bool) (outbox now_outbox : List ℕ)
-    → KeepsDownlinks setting journal latest live outbox → IsTaken setting entry latest now_latest live now_live outbox now_outbox
-    → KeepsDownlinks setting (journal ++ entry ∷ []) now_latest now_live now_outbox
-kept_on setting journal entry latest now_latest live now_live outbox now_outbox keeps taken =
-    let told = told_after [] keeps.acts in
-    let before = journal_texts setting 0 setting.first journal (history_items configuration 0 [] keeps.acts) in
-    let here = entry_texts setting 0 (latest_after latest entry) (quiet_items live taken.acts) in
-    let texts = texts-more setting journal entry latest live outbox keeps taken.acts taken.quiet in
-    record {
-      one_link = keeps.one_link;
-      acts = keeps.acts ++ taken.acts ∷ [];
-      are_acts = JournalActs-more setting.first journal entry keeps.acts taken.acts keeps.are_acts (subst (λ l. EntryActs l entry taken.acts) keeps.last taken.are_acts);
-      quiet = ap (list_all is_quiet) (told_after-more [] keeps.acts taken.acts) ∙ told_quiet told taken.acts keeps.quiet taken.quiet;
-      last = taken.last ∙ ap (λ l. latest_after l entry) keeps.last ∙ sym (latest_of-more setting.first journal entry);
-      lives = taken.lives ∙ ap (λ l. live_after l taken.acts) keeps.lives
-          ∙ sym (ap (λ t. is_live 0 (past_of configuration t)) (told_after-more [] keeps.acts taken.acts) ∙ entry_live told taken.acts keeps.quiet taken.quiet);
-      unbroken = subst (All IsUnbroken) (sym texts) (All-append IsUnbroken before here keeps.unbroken taken.unbroken);
-      spelled = taken.spelled ∙ ap (λ o. o ++ ended_lines here) keeps.spelled ∙ sym (ended_lines-append before here) ∙ ap ended_lines (sym texts);
-    }
+  texts-more : (link : ℕ) → journal_texts setting link [] setting.first (journal ++ entry ∷ []) (keeps.acts ++ taken.acts ∷ [])
+      ≡ journal_texts setting link [] setting.first journal keeps.acts ++ added link
+  texts-more link =
+      journal_texts-more setting link [] setting.first journal entry keeps.acts taken.acts (JournalActs-length setting.first journal keeps.acts keeps.are_acts)
+      ∙ (λ i. journal_texts setting link [] setting.first journal keeps.acts
+      ++ entry_texts setting link (past i) (sym keeps.last i) entry taken.acts)
+    where
+      past : past_after setting [] keeps.acts ≡ past_of (configuration_of setting) (newest_first keeps.acts)
+      past = past_after-told setting [] keeps.acts ∙ ap (past_of (configuration_of setting)) (append-nil (newest_first keeps.acts))
+
+  pub kept_on : KeepsDownlinks setting (journal ++ entry ∷ []) now_latest now_table now_outboxes
+  kept_on = record {
+    some_links = keeps.some_links;
+    few_links = keeps.few_links;
+    acts = keeps.acts ++ taken.acts ∷ [];
+    are_acts = JournalActs-more setting.first journal entry keeps.acts taken.acts keeps.are_acts (subst (λ l. EntryActs l entry taken.acts) keeps.last taken.are_acts);
+    last = taken.last ∙ ap (λ l. latest_after l entry) keeps.last ∙ sym (latest_of-more setting.first journal entry);
+    configured = of_table.configured;
+    linked = of_table.linked;
+    stands = subst (StandsFor now_table) (sym (newest_first-more keeps.acts taken.acts)) (taken.told.stands (newest_first keeps.acts) keeps.stands);
+    each_link = each_link ∙ keeps.each_link;
+    unbroken = λ link inside.
+        subst (All IsUnbroken) (sym (texts-more link))
+        (All-append IsUnbroken (journal_texts setting link [] setting.first journal keeps.acts)
+        (added link)
+        (keeps.unbroken link inside) ((taken.sent link inside).unbroken (newest_first keeps.acts) keeps.stands));
+    spelled = λ link inside.
+        (taken.sent link inside).spelled (newest_first keeps.acts) keeps.stands
+        ∙ ap (λ sent. sent ++ ended_lines (added link)) (keeps.spelled link inside)
+        ∙ sym (ended_lines-append (journal_texts setting link [] setting.first journal keeps.acts) (added link))
+        ∙ ap ended_lines (sym (texts-more link));
+  }
+
+-- Its table is one of its setting.
+pub keeps_table : (setting : Setting) (journal : List Entry) (latest : FlightSample) (table : TableState) (outboxes : List OutboxState)
+    → KeepsDownlinks setting journal latest table outboxes → IsTableOf setting table
+keeps_table setting journal latest table outboxes keeps =
+    record { configured = keeps.configured; linked = keeps.linked; acts = newest_first keeps.acts; stands = keeps.stands }
+
+-- ---- an outbox
+
+module _ (setting : Setting) (journal : List Entry) (latest : FlightSample) (table : TableState) (outboxes : List OutboxState) (link : ℕ)
+    (keeps : KeepsDownlinks setting journal latest table outboxes) (inside : link < length setting.addresses) where
+  lines_kept : script_lines (outbox_of outboxes link).sent ≡ journal_texts setting link [] setting.first journal keeps.acts
+  lines_kept =
+      ap script_lines (keeps.spelled link inside) ∙ script_lines-ended (journal_texts setting link [] setting.first journal keeps.acts) (keeps.unbroken link inside)
+
+  -- Its lines are the downlinks, each ended by a newline.
+  pub downlinks_kept : AreDownlinks setting journal link (script_lines (outbox_of outboxes link).sent)
+  downlinks_kept = record { acts = keeps.acts; are_acts = keeps.are_acts; spelled = lines_kept }
+
+  pub ended_kept : (outbox_of outboxes link).sent ≡ ended_lines (script_lines (outbox_of outboxes link).sent)
+  ended_kept = keeps.spelled link inside ∙ ap ended_lines (sym lines_kept)
+
+-- ---- an aircraft that was just made
+
+pub kept_new : (setting : Setting) (table : TableState) (outboxes : List OutboxState) → 1 ≤ length setting.addresses → length setting.addresses ≤ 64
+    → table.configuration ≡ configuration_of setting → table.links ≡ length setting.addresses → StandsFor table [] → length outboxes ≡ length setting.addresses
+    → All (λ outbox. outbox.sent ≡ []) outboxes → KeepsDownlinks setting [] setting.first table outboxes
+kept_new setting table outboxes some few configured linked stands each_link empty = record {
+  some_links = some;
+  few_links = few;
+  acts = [];
+  are_acts = refl;
+  last = refl;
+  configured = configured;
+  linked = linked;
+  stands = stands;
+  each_link = each_link;
+  unbroken = λ link inside. All-nil IsUnbroken;
+  spelled = λ link inside. empty link (record { sent = []; room = 0 }) (omega (arith, inside, each_link));
+}
+
+-- ---- outboxes with more room
+
+pub kept_same : (setting : Setting) (journal : List Entry) (latest : FlightSample) (table : TableState) (outboxes now_outboxes : List OutboxState)
+    → KeepsDownlinks setting journal latest table outboxes → length now_outboxes ≡ length outboxes
+    → ((link : ℕ) → (outbox_of now_outboxes link).sent ≡ (outbox_of outboxes link).sent) → KeepsDownlinks setting journal latest table now_outboxes
+kept_same setting journal latest table outboxes now_outboxes keeps each_link sent = record {
+  some_links = keeps.some_links;
+  few_links = keeps.few_links;
+  acts = keeps.acts;
+  are_acts = keeps.are_acts;
+  last = keeps.last;
+  configured = keeps.configured;
+  linked = keeps.linked;
+  stands = keeps.stands;
+  each_link = each_link ∙ keeps.each_link;
+  unbroken = keeps.unbroken;
+  spelled = λ link inside. sent link ∙ keeps.spelled link inside;
+}
+
+-- ---- its table
+
+-- It stands for the acts of the journal.
+pub table_stands : (setting : Setting) (journal : List Entry) (latest : FlightSample) (table : TableState) (outboxes : List OutboxState)
+    → KeepsDownlinks setting journal latest table outboxes → (acts : List (List Act)) → JournalActs setting.first journal acts → StandsFor table (newest_first acts)
+table_stands setting journal latest table outboxes keeps acts are =
+    subst (λ (a : List (List Act)). StandsFor table (newest_first a)) (same_acts setting.first journal keeps.acts acts keeps.are_acts are) keeps.stands
+
+-- ---- acts of each entry
+
+pub acts_more : (first : FlightSample) (journal : List Entry) (place : ℕ) (entry : Entry) → place < length journal → entry ≡ get_or journal place entry
+    → ((acts : List (List Act)) × JournalActs first (take place journal) acts) → ((latest : FlightSample) → (acts : List Act) × EntryActs latest entry acts)
+    → (acts : List (List Act)) × JournalActs first (take (place + 1) journal) acts
+acts_more first journal place entry within is before each =
+    let here = each (latest_of first (take place journal)) in (
+      before.0 ++ here.0 ∷ [],
+      subst (λ entries. JournalActs first entries (before.0 ++ here.0 ∷ [])) (sym (take_more journal place entry within ∙ ap (λ e. take place journal ++ e ∷ []) (sym is)))
+          (JournalActs-more first (take place journal) entry before.0 here.0 before.1 here.1),
+    )

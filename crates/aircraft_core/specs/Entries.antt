@@ -1,44 +1,42 @@
 -- The entries of a journal (this project's profile).
-use Rattle.std.specs.Prelude.{◌≡◌, ℕ, ◌<◌, Bool, true, List, length}
-use Rattle.std.specs.List.{list_all}
-use Rattle.contract_rules.specs.Messages.{Demand, is_request_of}
-use Rattle.adsc_requests.specs.declared.message.Message.{Message}
-use Rattle.adsc_requests.specs.declared.message.Uplink.{Uplink as UplinkMessages}
-use Rattle.adsc_requests.specs.Grammar.{EncodesUplink}
+use Rattle.std.specs.Prelude.{ℕ, ◌<◌, ◌≤◌, ◌==◌, Bool, true, List, [], ◌∷◌, length}
 use Rattle.flight_samples.specs.declared.sample.Sample.{Sample as FlightSample}
 use Rattle.aircraft_core.specs.declared.entry.Entry.{Entry}
-use Rattle.aircraft_core.specs.declared.entry.Entry.TheVariants.{Uplink, Sample}
-use Rattle.aircraft_core.specs.Acts.{rules_message}
+use Rattle.aircraft_core.specs.declared.entry.Entry.TheVariants.{Uplink, Answer, Sample, Tick, Crew, Logon}
 use Rattle.aircraft_core.specs.Setting.{Setting}
 
--- the number of the line that brought the entry
+-- The number of the line that brought the entry.
 abbrev pub line_of : Entry → ℕ
 line_of (Uplink line link bytes) = line
+line_of (Answer line link code) = line
 line_of (Sample line sample) = line
+line_of (Tick line t) = line
+line_of (Crew line on) = line
+line_of (Logon line link) = line
 
--- the entry is of one of the aircraft's links, or of none
-abbrev pub IsOfLinks : Setting → Entry → Type 0
-IsOfLinks setting (Uplink line link bytes) = link < length setting.addresses
-IsOfLinks setting (Sample line sample) = Unit {0}
+-- Whether a link hears of the entry: its own uplinks, answers and logons, and the entries of the flight, which are samples, ticks and
+-- acts of the crew.
+abbrev pub is_heard_by : ℕ → Entry → Bool
+is_heard_by link (Uplink line other bytes) = link == other
+is_heard_by link (Answer line other code) = link == other
+is_heard_by link (Logon line other) = link == other
+is_heard_by link entry = true
 
--- the latest sample after the entry: its own, where it is a sample
+-- An aircraft of this setting takes the entry: its link is one of the aircraft's, its payload has 1 to 255 octets, its code is at most
+-- 9, and its moment is at most 999,999,999 seconds.
+abbrev pub IsTakenBy : Setting → Entry → Type 0
+IsTakenBy setting (Uplink line link bytes) = (link < length setting.addresses) × (1 ≤ length bytes.items) × (length bytes.items ≤ 255)
+IsTakenBy setting (Answer line link code) = (link < length setting.addresses) × (code ≤ 9)
+IsTakenBy setting (Logon line link) = link < length setting.addresses
+IsTakenBy setting (Tick line t) = t < 1000000000
+IsTakenBy setting entry = Unit {0}
+
+-- The latest sample after the entry: its own, where it is a sample.
 abbrev pub latest_after : FlightSample → Entry → FlightSample
-latest_after latest (Uplink line link bytes) = latest
 latest_after latest (Sample line sample) = sample
+latest_after latest entry = latest
 
--- whether a message is a demand: a periodic request whose interval is absent or 0 s
-abbrev pub is_demand : Message → Bool
-is_demand message = is_request_of Demand (rules_message message)
-
--- whether all messages of an uplink are demands
-abbrev pub are_demands : UplinkMessages → Bool
-are_demands uplink = list_all is_demand uplink.messages.items
-
--- What is built so far: a payload that can be read asks for demands alone.
-abbrev pub IsBuiltPayload : List ℕ → Type 0
-IsBuiltPayload payload = (uplink : UplinkMessages) → EncodesUplink uplink payload → are_demands uplink ≡ true
-
--- the entry is of a form that is built so far
-abbrev pub IsBuilt : Entry → Type 0
-IsBuilt (Uplink line link bytes) = IsBuiltPayload bytes.items
-IsBuilt (Sample line sample) = Unit {0}
+-- The latest sample after the entries of a journal, where this is the one before them.
+abbrev pub latest_of : FlightSample → List Entry → FlightSample
+latest_of latest [] = latest
+latest_of latest (entry ∷ entries) = latest_of (latest_after latest entry) entries

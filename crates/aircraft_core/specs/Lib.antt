@@ -1,9 +1,13 @@
+pub mod Admissions
 pub mod Aircraft
-pub mod Acts
 pub mod CraftFields
 pub mod Downlinks
 pub mod Entries
-pub mod Quiet
+pub mod JournalActs
+pub mod LogonStates
+pub mod Outboxes
 pub mod Reports
+pub mod Sending
 pub mod Setting
 pub mod Taking
+pub mod Telling

@@ -1,48 +1,56 @@
-//! The text of a downlink.
-ghost use Rattle.std.specs.Prelude.{◌≡◌, ◌+◌, ◌≤◌, ◌++◌, All, length, map};
-ghost use Rattle.std.specs.Vec.{vec_len, vec_capacity};
-ghost use Rattle.adsc_downlink.specs.ItemView.{item_data, items_data};
-ghost use Rattle.adsc_downlink.specs.Items.{downlink_bits};
+//! A downlink: the items that are due on a link at one entry, written one behind the other and sent
+//! in one text.
+ghost use Rattle.std.specs.Prelude.{◌≡◌, ◌+◌, ◌%◌, ◌≤◌, ◌<◌, ◌++◌, List, All, length};
 ghost use Rattle.adsc_io.specs.Lines.{IsUnbroken, ended_lines};
-ghost use Rattle.aircraft_core.specs.Taking.{text_of_data, texts_of_data};
+ghost use Rattle.contract_rules.specs.Due.{Item as RulesItem};
+ghost use Rattle.flight_samples.specs.declared.sample.Sample.{Sample as FlightSample};
+ghost use Rattle.aircraft_core.specs.Downlinks.{texts_of_items};
+ghost use Rattle.aircraft_core.specs.Sending.{AreSendable, items_in, item_bits_on, most_bits_of, payload_bits};
 
-use crate::room::append_ended;
+use crate::items::item;
+use crate::outbox::Outbox;
 use crate::setup::Setup;
-use acars_envelope::{Body, Envelope, Text, seal};
-use adsc_downlink::{Item, Items, encode_downlink};
-use arrayvec::ArrayVec;
+use adsc_bits::BitWriter;
+use adsc_downlink::encode_item;
+use contract_table::Due;
+use flight_samples::Sample;
 
-/// Appends the downlink of these items to an outbox that has room for it, and nothing where there are none.
-pub(crate) fn append_downlink(outbox: &mut Vec<u8>, setup: &Setup, items: ArrayVec<Item, 8>)
-    requires fits { length (downlink_bits (map item_data items.items)) ≤ 2040 }
-    requires room { vec_len outbox.old + 534 ≤ vec_capacity outbox.old }
-    ensures items { outbox.new.items ≡ outbox.old.items ++ ended_lines (texts_of_data setup.now (map item_data items.items)) }
-    ensures unbroken { All IsUnbroken (texts_of_data setup.now (map item_data items.items)) }
-    ensures len { vec_len outbox.new ≤ vec_len outbox.old + 534 }
-    ensures capacity { vec_capacity outbox.old ≤ vec_capacity outbox.new }
+/// Writes the items that are due behind those that were written before, with the data of this
+/// sample. There is room for them.
+pub(crate) fn write_items(out: &mut BitWriter, setup: &Setup, sample: &Sample, dues: &[Due])
+    requires sendable { AreSendable (items_in dues.now) }
+    requires room { length out.old + most_bits_of (items_in dues.now) ≤ payload_bits }
+    requires whole { length out.old % 8 ≡ 0 }
+    ensures bits { out.new ≡ out.old ++ item_bits_on setup.now sample.now (items_in dues.now) }
+    ensures size { length out.new ≤ length out.old + most_bits_of (items_in dues.now) }
+    ensures whole { length out.new % 8 ≡ 0 }
 {
-    if items.is_empty() {
-        return;
+    for due in dues {
+        encode_item(&item(setup, sample, &due.item), out);
     }
-    let text = downlink(setup, &Items { list: items });
-    append_ended(outbox, text.as_slice());
 }
 
-/// The downlink that carries these items: from the aircraft, to the ground address of its link.
-fn downlink(setup: &Setup, items: &Items) -> Text
-    requires { length (downlink_bits (items_data items.now)) ≤ 2040 }
-    ensures text { result.items ≡ text_of_data setup.now (items_data items.now) }
-    ensures unbroken { IsUnbroken result.items }
-    ensures size { length result.items ≤ 533 }
+/// Sends the items that were written on a link, in one text, and nothing where there are none.
+/// There is room for it.
+pub(crate) fn send(outbox: &mut Outbox, setup: &Setup, link: usize, out: BitWriter)
+    requires link { link < length setup.now.addresses }
+    requires whole { length out % 8 ≡ 0 }
+    requires room { 534 ≤ outbox.old.room }
+    ensures sent { (sample : FlightSample) (items : List RulesItem) → out
+        ≡ item_bits_on setup.now sample items
+        → outbox.new.sent ≡ outbox.old.sent ++ ended_lines (texts_of_items setup.now link sample items) }
+    ensures unbroken { (sample : FlightSample) (items : List RulesItem) → out
+        ≡ item_bits_on setup.now sample items
+        → All IsUnbroken (texts_of_items setup.now link sample items) }
+    ensures room { outbox.old.room ≤ outbox.new.room + 534 }
 {
-    let envelope = Envelope {
-        address: setup.address(),
-        body: Body::Ads {
-            registration: setup.registration(),
-            payload: encode_downlink(items),
-        },
-    };
-    let text = seal(&envelope);
-    let _size = text.as_slice();
-    text
+    if out.bit() == 0 {
+        return;
+    }
+    let payload = out.finish();
+    outbox.send(
+        &setup.address(link),
+        &setup.registration(),
+        payload.as_slice(),
+    );
 }

@@ -62,7 +62,8 @@ fn flight_code(character: u8) -> u8
 
 /// Predicted route, tag 13: the active waypoint and the one after it.
 fn predicted_route(sample: &Sample) -> Route
-    ensures { route_values result ≡ sample.now.wlat ∷ sample.now.wlon ∷ sample.now.walt ∷ sample.now.eta
+    ensures { route_values result
+        ≡ sample.now.wlat ∷ sample.now.wlon ∷ sample.now.walt ∷ sample.now.eta
         ∷ sample.now.nlat ∷ sample.now.nlon ∷ sample.now.nalt ∷ [] }
 {
     Route {
@@ -78,7 +79,8 @@ fn predicted_route(sample: &Sample) -> Route
 
 /// Earth reference, tag 14: the motion over the ground.
 fn earth_reference(sample: &Sample) -> Motion
-    ensures { motion_values result ≡ sample.now.tinv ∷ sample.now.track ∷ sample.now.gs ∷ sample.now.vr ∷ [] }
+    ensures { motion_values result
+        ≡ sample.now.tinv ∷ sample.now.track ∷ sample.now.gs ∷ sample.now.vr ∷ [] }
 {
     Motion {
         invalid: sample.tinv as u8,
@@ -90,7 +92,8 @@ fn earth_reference(sample: &Sample) -> Motion
 
 /// Air reference, tag 15: the motion through the air.
 fn air_reference(sample: &Sample) -> Motion
-    ensures { motion_values result ≡ sample.now.hinv ∷ sample.now.heading ∷ sample.now.mach ∷ sample.now.vr ∷ [] }
+    ensures { motion_values result
+        ≡ sample.now.hinv ∷ sample.now.heading ∷ sample.now.mach ∷ sample.now.vr ∷ [] }
 {
     Motion {
         invalid: sample.hinv as u8,
@@ -102,7 +105,8 @@ fn air_reference(sample: &Sample) -> Motion
 
 /// Meteorological data, tag 16: wind and temperature.
 fn meteorological(sample: &Sample) -> Weather
-    ensures { weather_values result ≡ sample.now.wind ∷ sample.now.winv ∷ sample.now.wdir ∷ sample.now.temp ∷ [] }
+    ensures { weather_values result
+        ≡ sample.now.wind ∷ sample.now.winv ∷ sample.now.wdir ∷ sample.now.temp ∷ [] }
 {
     Weather {
         wind: sample.wind as u32,

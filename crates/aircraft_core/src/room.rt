@@ -1,29 +1,31 @@
 //! Vectors that have room.
 ghost use Rattle.std.specs.Prelude.{◌≡◌, ◌+◌, ◌<◌, ◌≤◌, [], ◌∷◌, ◌++◌, length};
 ghost use Rattle.std.specs.Vec.{vec_len, vec_capacity};
-ghost use Rattle.adsc_io.specs.Lines.{ended};
+ghost use Rattle.adsc_io.specs.Lines.{newline};
 
 use crate::entry::Entry;
 
-/// Appends a text and the newline that ends it to an outbox that has room for them.
-pub(crate) fn append_ended(outbox: &mut Vec<u8>, text: &[u8])
-    requires { vec_len outbox.old + length text.now + 1 ≤ vec_capacity outbox.old }
-    ensures items { outbox.new.items ≡ outbox.old.items ++ ended text.now }
-    ensures len { vec_len outbox.new ≡ vec_len outbox.old + length text.now + 1 }
-    ensures capacity { vec_capacity outbox.old ≤ vec_capacity outbox.new }
+/// Appends bytes to a buffer that has room for them.
+pub(crate) fn append(out: &mut Vec<u8>, bytes: &[u8])
+    requires { vec_len out.old + length bytes.now ≤ vec_capacity out.old }
+    ensures items { out.new.items ≡ out.old.items ++ bytes.now }
+    ensures len { vec_len out.new ≡ vec_len out.old + length bytes.now }
+    ensures capacity { vec_capacity out.old ≤ vec_capacity out.new }
 {
-    append(outbox, text);
-    append(outbox, b"\n");
+    match out.extend_from_slice(bytes) {
+        Ok(()) => {}
+        Err(_) => unreachable!(),
+    }
 }
 
-/// Appends bytes to an outbox that has room for them.
-fn append(outbox: &mut Vec<u8>, bytes: &[u8])
-    requires { vec_len outbox.old + length bytes.now ≤ vec_capacity outbox.old }
-    ensures items { outbox.new.items ≡ outbox.old.items ++ bytes.now }
-    ensures len { vec_len outbox.new ≡ vec_len outbox.old + length bytes.now }
-    ensures capacity { vec_capacity outbox.old ≤ vec_capacity outbox.new }
+/// Ends a line with a newline, in a buffer that has room for it.
+pub(crate) fn end_line(out: &mut Vec<u8>)
+    requires { vec_len out.old < vec_capacity out.old }
+    ensures items { out.new.items ≡ out.old.items ++ newline ∷ [] }
+    ensures len { vec_len out.new ≡ vec_len out.old + 1 }
+    ensures capacity { vec_capacity out.old ≤ vec_capacity out.new }
 {
-    match outbox.extend_from_slice(bytes) {
+    match out.push(b'\n') {
         Ok(()) => {}
         Err(_) => unreachable!(),
     }

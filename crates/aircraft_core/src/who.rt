@@ -6,7 +6,7 @@ use due_event::Profile;
 
 /// Who an aircraft is on its data link.
 ///
-/// The three names are those of RTCA DO-258A / EUROCAE ED-100A.
+/// The three names are those of RTCA DO-258A / EUROCAE ED-100A; the profile is this project's own.
 #[derive(Debug, Drop, PartialEq, Eq)]
 pub struct Who {
     /// The aircraft's registration, seven characters.
@@ -15,7 +15,7 @@ pub struct Who {
     pub flight: Flight,
     /// The aircraft's address of 24 bits (ICAO).
     pub airframe: u32,
-    /// How often it reports the events of one event contract (this project's profile).
+    /// How often the aircraft reports the events of an event contract.
     pub profile: Profile,
     ghost address_size: { airframe < 2 ^ 24 },
 }

@@ -1,16 +1,13 @@
 -- The laws of the addresses of a ground line.
-use Rattle.std.proofs.Common.{◌≡◌, ◌≢◌, ◌↔◌, ◌+◌, ◌-◌, ◌<◌, ◌≤◌, ℕ, zero, suc, Bool, true, false, IsTrue, IfSome, IfNone, List, [], ◌∷◌, ◌++◌, Option, Some, None, length, map, take, drop, get_or, refl, sym, ap, ◌∙◌, subst, arith, inl, inr, add-one, length-append, length-drop}
+use Rattle.std.proofs.Common.{◌≡◌, ◌≢◌, ◌↔◌, ◌+◌, ◌-◌, ◌<◌, ◌≤◌, ℕ, Bool, true, false, IsTrue, IfSome, List, [], ◌∷◌, ◌++◌, Option, Some, None, length, take, drop, get_or, refl, sym, ap, ◌∙◌, subst, arith, inl, inr, add-one, length-append, length-drop}
 use Rattle.std.proofs.Math.ListN.{get_or-map}
 use Rattle.std.proofs.Math.Seq.{get_or-append_seam}
 use Rattle.std.proofs.lemmas.Bool.{cases_lt, cases_order}
 use Rattle.std.proofs.lemmas.List.{append_cancel_right, length-map, take-append-le, take_all, take_more}
 use Rattle.std.specs.Prelude.{codes}
 use Rattle.acars_envelope.specs.Names.{IsAddress}
-use Rattle.net_script.specs.Addresses.{AreDifferent, IsFirstRepeat, IsListed, IsReserved, IsStarred, NoStarBefore, listed_addresses}
-use Rattle.net_script.specs.Faults.{IsFirstTwice, IsFirstWrong}
+use Rattle.net_script.specs.Addresses.{IsReserved, IsStarred, NoStarBefore, listed_addresses}
 use Rattle.net_script.specs.Fields.{field_at}
-use Rattle.net_script.specs.Forms.{AreRightBefore, IsRight}
-use Rattle.net_script.specs.declared.letter.Letter.TheVariants.{Ground}
 use Rattle.net_script.proofs.FieldsLaws.{field-drop}
 
 -- A test that failed says that the fact doesn't hold.

@@ -6,3 +6,9 @@ pub mod LineLaws
 pub mod SampleLaws
 pub mod TextLaws
 pub mod ValueLaws
+pub mod Deciding
+pub mod EachForm
+pub mod EachGround
+pub mod EachSample
+pub mod EachRequest
+pub mod EachLine

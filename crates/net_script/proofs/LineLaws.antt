@@ -22,25 +22,25 @@ use Rattle.net_script.proofs.SampleLaws.{form_of_value}
 -- ---- letters
 
 -- The letter of a byte.
-letter_named : ℕ → Option Letter
+pub letter_named : ℕ → Option Letter
 letter_named c =
     if c == 65 then Some Aircraft else if c == 71 then Some Ground else if c == 83 then Some Sample else if c == 84 then Some Time
     else if c == 69 then Some Emergency else if c == 76 then Some Logon else if c == 85 then Some Uplink else if c == 67 then Some Request
     else if c == 75 then Some Cancel else if c == 66 then Some Bring else if c == 82 then Some Receive else None
 
-named : (letter : Letter) → letter_named (letter_code letter) ≡ Some letter
+pub letter_named_code : (letter : Letter) → letter_named (letter_code letter) ≡ Some letter
 unfolding letter_named
-named Aircraft = refl
-named Ground = refl
-named Sample = refl
-named Time = refl
-named Emergency = refl
-named Logon = refl
-named Uplink = refl
-named Request = refl
-named Cancel = refl
-named Bring = refl
-named Receive = refl
+letter_named_code Aircraft = refl
+letter_named_code Ground = refl
+letter_named_code Sample = refl
+letter_named_code Time = refl
+letter_named_code Emergency = refl
+letter_named_code Logon = refl
+letter_named_code Uplink = refl
+letter_named_code Request = refl
+letter_named_code Cancel = refl
+letter_named_code Bring = refl
+letter_named_code Receive = refl
 
 -- Values that are found alike are one.
 pub some_same : {X : Type 0} (a b : X) → Some a ≡ Some b → a ≡ b
@@ -50,7 +50,7 @@ some_same a b e = cc
 pub letter_same : (bytes : List ℕ) (a b : Letter) → HasLetter bytes a → HasLetter bytes b → a ≡ b
 letter_same bytes a b one other =
     let codes : letter_code a ≡ letter_code b = ap (λ text. get_or text 0 0) (sym one ∙ other) in
-    some_same a b (sym (named a) ∙ ap letter_named codes ∙ named b)
+    some_same a b (sym (letter_named_code a) ∙ ap letter_named codes ∙ letter_named_code b)
 
 -- ---- right lines
 

@@ -15,7 +15,8 @@
 //!
 //! Begin with `specs/Lines.antt` (what a line says), `specs/Forms.antt` (the form of each field), `specs/Addresses.antt` (what a
 //! `G` line lists) and `specs/Faults.antt` (the first fault), then read `src/read.rt` from its end. The limits stand in
-//! [`limits`].
+//! [`limits`]. That the definitions leave no line out is a law of its own,
+//! [`each_line_says_something_or_has_a_fault`].
 #![tactic(auto)]
 
 mod addresses;
@@ -24,6 +25,7 @@ mod content;
 mod counts;
 mod fields;
 mod ground;
+mod laws;
 mod letter;
 pub mod limits;
 mod line;
@@ -37,6 +39,7 @@ mod tests;
 mod values;
 
 pub use addresses::Addresses;
+pub use laws::each_line_says_something_or_has_a_fault;
 pub use letter::{Letter, has_letter};
 pub use line::{Cancel, ScriptLine};
 pub use read::read_script_line;

@@ -1,10 +1,7 @@
--- What the shown text of lines says of the lines: none of them is of a form that isn't built, and it counts those that are refused.
-use Rattle.std.proofs.Common.{◌≡◌, ◌≢◌, ℕ, ◌+◌, ◌<◌, true, List, [], ◌∷◌, ◌++◌, cond, sym, ap, ◌∙◌, refl, subst, arith, inl, inr}
-use Rattle.std.specs.List.{All}
+-- What the shown text of lines says of the lines: it counts those that are refused.
+use Rattle.std.proofs.Common.{◌≡◌, ℕ, ◌+◌, ◌<◌, true, List, [], ◌∷◌, ◌++◌, cond, sym, ap, ◌∙◌, refl, subst, arith, inl, inr}
 use Rattle.std.proofs.lemmas.Bool.{cases_Bool}
-use Rattle.std.proofs.lemmas.List.Elements.{All-head, All-tail}
-use Rattle.shown_lines.specs.Meanings.{Meaning, Means, AreMeanings, HasUnbuilt, HasRefused, is_refusal}
-use Rattle.shown_lines.specs.Meanings.Meaning.{not_built}
+use Rattle.shown_lines.specs.Meanings.{Meaning, Means, AreMeanings, HasRefused, is_refusal}
 use Rattle.shown_lines.specs.Shown.{AreShown, refusal_count}
 
 -- a list of meanings with one more in front of others
@@ -23,17 +20,6 @@ one_of (l ∷ before) behind line meaning [] each means = absurd each
 one_of (l ∷ before) behind line meaning (m ∷ meanings) each means =
     let one = one_of before behind line meaning meanings each.1 means in
     record { before = m ∷ one.before; behind = one.behind; joined = ap (λ x. m ∷ x) one.joined }
-
-not_one : (before behind : List Meaning) (meaning : Meaning) → All (λ m. m ≢ not_built) (before ++ meaning ∷ behind) → meaning ≡ not_built → ⊥
-not_one [] behind meaning all is = All-head (λ m. m ≢ not_built) meaning behind all is
-not_one (m ∷ before) behind meaning all is = not_one before behind meaning (All-tail (λ x. x ≢ not_built) m (before ++ meaning ∷ behind) all) is
-
--- lines that are shown are built
-pub shown_is_built : (lines : List (List ℕ)) (text : List ℕ) (refused : ℕ) → AreShown lines text refused → HasUnbuilt lines → ⊥
-shown_is_built lines text refused shown unbuilt =
-    let each = subst (λ ls. AreMeanings ls shown.meanings) unbuilt.joined shown.each in
-    let one = one_of unbuilt.before unbuilt.behind unbuilt.line unbuilt.meaning shown.meanings each unbuilt.means in
-    not_one one.before one.behind unbuilt.meaning (subst (All (λ m. m ≢ not_built)) one.joined shown.built) unbuilt.passes
 
 count_one : (before behind : List Meaning) (meaning : Meaning) → is_refusal meaning ≡ true → 0 < refusal_count (before ++ meaning ∷ behind)
 count_one [] behind meaning is = subst (λ b. 0 < cond b 1 0 + refusal_count behind) (sym is) (omega arith)

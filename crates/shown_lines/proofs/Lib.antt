@@ -1,4 +1,6 @@
+pub mod AircraftLaws
 pub mod CountLaws
+pub mod GroundLaws
 pub mod LineLaws
 pub mod OneText
 pub mod ShownLaws

@@ -1,14 +1,12 @@
 -- The laws of the shown text of lines: nothing is shown at first, and each line adds to it.
-use Rattle.std.proofs.Common.{◌≡◌, ◌≢◌, ℕ, suc, ◌+◌, List, [], ◌∷◌, ◌++◌, length, take, cond, sym, ap, ◌∙◌, refl, subst, arith, append_assoc}
+use Rattle.std.proofs.Common.{◌≡◌, ℕ, suc, ◌+◌, List, [], ◌∷◌, ◌++◌, length, take, cond, sym, ap, ◌∙◌, refl, subst, arith, append_assoc}
 use Rattle.std.proofs.lemmas.List.{append-nil, length-append, take_at}
-use Rattle.std.proofs.lemmas.List.Elements.{All-nil, All-push}
 use Rattle.adsc_io.specs.Inputs.{HasLine}
 use Rattle.adsc_io.specs.Lines.{script_lines}
-use Rattle.shown_lines.specs.Meanings.{Meaning, IsMeaning, Means, AreMeanings, is_refusal}
-use Rattle.shown_lines.specs.Meanings.Meaning.{uplink as an_uplink, downlink as a_downlink, refused as a_refusal, not_built}
+use Rattle.shown_lines.specs.Meanings.{Meaning, IsMeaning, AreMeanings, is_refusal}
+use Rattle.shown_lines.specs.Meanings.Meaning.{uplink as an_uplink, answer as an_answer, downlink as a_downlink, contact as a_contact, refused as a_refusal}
 use Rattle.shown_lines.specs.Shown.{AreShown, IsShown, refusal_count, refusals, way_shown}
 use Rattle.shown_lines.specs.declared.show.LineShown.{LineShown}
-use Rattle.shown_lines.specs.declared.show.LineShown.TheVariants.{NotBuilt}
 use Rattle.shown_lines.specs.Texts.{line_text, lines_text}
 
 -- before any line nothing is shown
@@ -17,7 +15,6 @@ AreShown-none lines text refused none empty zero_refused =
     subst (λ (x : List (List ℕ)). AreShown x text refused) (sym none) (record {
       meanings = [];
       each = refl;
-      built = All-nil (λ meaning. meaning ≢ not_built);
       counted = zero_refused;
       spelled = empty;
     })
@@ -53,27 +50,17 @@ lines_text-more number (m ∷ meanings) meaning =
 -- a line is refused exactly where it is shown so
 refusals_of : (meaning : Meaning) → refusals (way_shown meaning) ≡ cond (is_refusal meaning) 1 0
 refusals_of (an_uplink address registration asked) = refl
+refusals_of (an_answer address said) = refl
 refusals_of (a_downlink address registration items) = refl
+refusals_of (a_contact address said) = refl
 refusals_of (a_refusal fault) = refl
-refusals_of not_built = refl
-
--- a line that isn't shown is of a form that isn't built
-pub unshown : (number : ℕ) (line text : List ℕ) (way : LineShown) → IsShown number line text way → way ≡ NotBuilt → Means line not_built
-unshown number line text way shown none = subst (Means line) (at shown.meaning (sym shown.shown ∙ none)) shown.means
-  where
-    at : (meaning : Meaning) → way_shown meaning ≡ NotBuilt → meaning ≡ not_built
-    at (an_uplink address registration asked) is = absurd (cc)
-    at (a_downlink address registration items) is = absurd (cc)
-    at (a_refusal fault) is = absurd (cc)
-    at not_built is = refl
 
 -- a line is shown behind those that are
 AreShown-more : (lines : List (List ℕ)) (line before text : List ℕ) (number refused_before : ℕ) (way : LineShown) → number ≡ length lines + 1 → AreShown lines before refused_before
-    → IsShown number line text way → (way ≡ NotBuilt → ⊥) → AreShown (lines ++ line ∷ []) (before ++ text) (refused_before + refusals way)
-AreShown-more lines line before text number refused_before way numbered shown added built = record {
+    → IsShown number line text way → AreShown (lines ++ line ∷ []) (before ++ text) (refused_before + refusals way)
+AreShown-more lines line before text number refused_before way numbered shown added = record {
   meanings = shown.meanings ++ added.meaning ∷ [];
   each = AreMeanings-more lines shown.meanings line added.meaning shown.each (record { means = added.means; only = added.only });
-  built = All-push (λ meaning. meaning ≢ not_built) shown.meanings added.meaning shown.built (λ is. built (added.shown ∙ ap way_shown is));
   counted = omega (arith, ap refusals added.shown, refusals_of added.meaning, shown.counted, refusal_count-more shown.meanings added.meaning);
   spelled = ap (λ t. before ++ t) added.spelled ∙ ap (λ t. t ++ line_text number added.meaning) shown.spelled
       ∙ ap (λ n. lines_text 1 shown.meanings ++ line_text n added.meaning) (omega (arith, numbered, length-meanings lines shown.meanings shown.each))
@@ -91,11 +78,11 @@ up_to_line bytes line number has =
 
 -- the line of the next number is shown behind all before it
 pub shown_next : (bytes line before text : List ℕ) (count number refused_before refused_now : ℕ) (way : LineShown) → number ≡ count + 1 → HasLine bytes number line
-    → refused_now ≡ refused_before + refusals way → AreShown (take count (script_lines bytes)) before refused_before → IsShown number line text way → (way ≡ NotBuilt → ⊥)
+    → refused_now ≡ refused_before + refusals way → AreShown (take count (script_lines bytes)) before refused_before → IsShown number line text way
     → AreShown (take number (script_lines bytes)) (before ++ text) refused_now
-shown_next bytes line before text count number refused_before refused_now way next has counted shown added built =
+shown_next bytes line before text count number refused_before refused_now way next has counted shown added =
     let place : count ≡ length has.before = omega (arith, next, has.counted) in
     subst (λ n. AreShown (take number (script_lines bytes)) (before ++ text) n) (sym counted)
     (subst (λ (lines : List (List ℕ)). AreShown lines (before ++ text) (refused_before + refusals way)) (sym (up_to_line bytes line number has))
     (AreShown-more has.before line before text number refused_before way has.counted
-    (subst (λ (lines : List (List ℕ)). AreShown lines before refused_before) (before_line bytes line count has.before has.behind has.joined place) shown) added built))
+    (subst (λ (lines : List (List ℕ)). AreShown lines before refused_before) (before_line bytes line count has.before has.behind has.joined place) shown) added))

@@ -1,4 +1,5 @@
 pub mod Fields
+pub mod LogonTexts
 pub mod Meanings
 pub mod Shown
 pub mod Texts

@@ -1,6 +1,6 @@
--- What a line of texts means: an uplink of ADS messages, a downlink of ADS items, or what is wrong with it first (this
--- project's profile).
-use Rattle.std.specs.Prelude.{◌≡◌, ℕ, ◌<◌, ◌≤◌, ◌⊎◌, Bool, true, false, List, [], ◌∷◌, ◌++◌, length, codes}
+-- What a line of texts means: what the text from the ground or from the aircraft says, of the application ADS or AFN, or what
+-- is wrong with the line first (this project's profile).
+use Rattle.std.specs.Prelude.{◌≡◌, ℕ, ◌+◌, ◌<◌, ◌≤◌, ◌⊎◌, Bool, true, false, List, [], ◌∷◌, ◌++◌, length, codes, Result, Ok, Err}
 use Rattle.bit_terms.specs.Octets.{octets_bits}
 use Rattle.adsc_io.specs.declared.limits.TheConstants.{MAX_LINE_BYTES}
 use Rattle.acars_envelope.specs.declared.texts.Body.{Body}
@@ -13,54 +13,87 @@ use Rattle.adsc_downlink.specs.Items.{ItemData}
 use Rattle.adsc_downlink.specs.Encodings.{EncodesDownlink}
 use Rattle.adsc_downlink.specs.Faults.{IsFirstDownlinkFault}
 use Rattle.adsc_downlink.specs.declared.refusal.DownRefusal.{DownRefusal}
-use Rattle.adsc_requests.specs.Grammar.{EncodesUplink}
-use Rattle.adsc_requests.specs.Refusals.{IsFirstUplinkFault}
 use Rattle.adsc_requests.specs.declared.message.Uplink.{Uplink}
 use Rattle.adsc_requests.specs.declared.refusal.Refusal.{Refusal}
+use Rattle.afn_logon.specs.Contents.{AnswerData, ContactData, answer_data}
+use Rattle.afn_logon.specs.Forms.{IsContactText, IsSomeContact}
+use Rattle.afn_logon.specs.Mismatch.{IsFirstMismatch}
+use Rattle.afn_logon.specs.declared.answer.Answer.{Answer}
+use Rattle.afn_logon.specs.declared.refusal.AfnRefusal.{AfnRefusal}
+use Rattle.ground_texts.specs.Readings.{ReadsText}
+use Rattle.ground_texts.specs.declared.ground_text.GroundText.{GroundText}
+use Rattle.ground_texts.specs.declared.ground_text.GroundText.TheVariants as ground
 use Rattle.shown_lines.specs.declared.direction.Direction.{Direction}
 use Rattle.shown_lines.specs.declared.direction.Direction.TheVariants.{Up, Down}
 use Rattle.shown_lines.specs.declared.refusal.TextRefusal.{TextRefusal}
 use Rattle.shown_lines.specs.declared.refusal.TextRefusal.TheVariants as refusal
 
--- A meaning: what a downlink says is plain data, and what an uplink asks is a value of its type. Lines of forms that are
--- not built yet have no other meaning than that.
+-- A meaning: what a text of one of the two applications says, and between which ground facility and aircraft, or what is wrong
+-- with the line. What an uplink asks is a value of its type; all else that is said is plain data.
 pub data Meaning : Type 0 where
   uplink : (address registration : List ℕ) (asked : Uplink) → Meaning
+  answer : (address : List ℕ) (said : AnswerData) → Meaning
   downlink : (address registration : List ℕ) (items : List ItemData) → Meaning
+  contact : (address : List ℕ) (said : ContactData) → Meaning
   refused : TextRefusal → Meaning
-  not_built : Meaning
 
--- ---- what a text means
+-- ---- what a text from the ground means
 
--- What the payload of an uplink means: the uplink that it encodes, or its first fault.
-abbrev pub UplinkPayloadMeans : List ℕ → List ℕ → List ℕ → Meaning → Type 0
-UplinkPayloadMeans address registration payload meaning =
-    ((asked : Uplink) × EncodesUplink asked payload × (meaning ≡ uplink address registration asked))
-    ⊎ ((fault : Refusal) × IsFirstUplinkFault fault payload × (meaning ≡ refused (refusal.Request fault)))
+-- Where the characters of an AFN text begin, counted in the whole text.
+abbrev pub characters_place : ℕ
+characters_place = 12
+
+-- What an uplink of the application ADS means: what its payload asks, or the payload's first fault.
+abbrev pub uplink_meaning : List ℕ → List ℕ → Result Uplink Refusal → Meaning
+uplink_meaning address registration (Ok asked) = uplink address registration asked
+uplink_meaning address registration (Err fault) = refused (refusal.Request fault)
+
+-- What an AFN text from the ground means: the answer that its characters are, or their first mismatch.
+abbrev pub answer_meaning : List ℕ → Result Answer AfnRefusal → Meaning
+answer_meaning address (Ok said) = answer address (answer_data said)
+answer_meaning address (Err mismatch) = refused (refusal.Characters (characters_place + mismatch.place))
+
+-- What a text from the ground means that is read so.
+abbrev pub reading_meaning : GroundText → Meaning
+reading_meaning (ground.Refused fault) = refused (refusal.Envelope fault)
+reading_meaning (ground.Ads found) = uplink_meaning found.address found.registration found.asked
+reading_meaning (ground.Afn found) = answer_meaning found.address found.answer
+
+-- A text from the ground means what it is read as.
+abbrev pub GroundTextMeans : List ℕ → Meaning → Type 0
+GroundTextMeans text meaning = (reading : GroundText) × ReadsText text reading × (meaning ≡ reading_meaning reading)
+
+-- ---- what a text from the aircraft means
 
 -- What the payload of a downlink means: the items that it encodes, or its first fault.
-abbrev pub DownlinkPayloadMeans : List ℕ → List ℕ → List ℕ → Meaning → Type 0
-DownlinkPayloadMeans address registration payload meaning =
+abbrev pub DownlinkMeans : List ℕ → List ℕ → List ℕ → Meaning → Type 0
+DownlinkMeans address registration payload meaning =
     ((items : List ItemData) × EncodesDownlink items (octets_bits payload) × (meaning ≡ downlink address registration items))
     ⊎ ((fault : DownRefusal) × IsFirstDownlinkFault (octets_bits payload) fault.bit fault.why × (meaning ≡ refused (refusal.Payload fault)))
 
--- What a payload means that goes this way.
-abbrev pub PayloadMeans : Direction → List ℕ → List ℕ → List ℕ → Meaning → Type 0
-PayloadMeans Up address registration payload meaning = UplinkPayloadMeans address registration payload meaning
-PayloadMeans Down address registration payload meaning = DownlinkPayloadMeans address registration payload meaning
+-- What the characters of an AFN text from the aircraft mean: the contact that they are, or their first mismatch.
+abbrev pub ContactMeans : List ℕ → List ℕ → Meaning → Type 0
+ContactMeans address characters meaning =
+    ((said : ContactData) × IsContactText said characters × (meaning ≡ contact address said))
+    ⊎ ((place : ℕ) × IsFirstMismatch IsSomeContact characters place × (meaning ≡ refused (refusal.Characters (characters_place + place))))
 
--- What the body of an envelope from or to this address means. Texts of the application AFN are not built yet.
-abbrev pub BodyMeans : Direction → List ℕ → Body → Meaning → Type 0
-BodyMeans direction address (Ads registration payload) meaning = PayloadMeans direction address registration payload.items meaning
-BodyMeans direction address (Afn text) meaning = meaning ≡ not_built
+-- What the body of an envelope to this address means.
+abbrev pub BodyMeans : List ℕ → Body → Meaning → Type 0
+BodyMeans address (Ads registration payload) meaning = DownlinkMeans address registration payload.items meaning
+BodyMeans address (Afn characters) meaning = ContactMeans address characters.items meaning
 
--- What a text means that goes this way: its first bad place, or what its envelope carries.
-abbrev pub TextMeans : Direction → List ℕ → Meaning → Type 0
-TextMeans direction text meaning =
+-- What a text from the aircraft means: its first bad place, or what its envelope carries.
+abbrev pub AircraftTextMeans : List ℕ → Meaning → Type 0
+AircraftTextMeans text meaning =
     ((fault : EnvelopeRefusal) × IsFirstEnvelopeFault text fault × (meaning ≡ refused (refusal.Envelope fault)))
-    ⊎ ((envelope : Envelope) × IsEnvelopeText envelope text × BodyMeans direction envelope.address envelope.body meaning)
+    ⊎ ((envelope : Envelope) × IsEnvelopeText envelope text × BodyMeans envelope.address envelope.body meaning)
 
 -- ---- what a line means
+
+-- What a text means that goes this way.
+abbrev pub TextMeans : Direction → List ℕ → Meaning → Type 0
+TextMeans Up text meaning = GroundTextMeans text meaning
+TextMeans Down text meaning = AircraftTextMeans text meaning
 
 -- The letter that says which way a text goes.
 abbrev pub letter_of : Direction → List ℕ
@@ -94,9 +127,10 @@ pub record IsMeaning (line : List ℕ) (meaning : Meaning) : Type 0 where
 -- The meaning is a refusal.
 abbrev pub is_refusal : Meaning → Bool
 is_refusal (uplink address registration asked) = false
+is_refusal (answer address said) = false
 is_refusal (downlink address registration items) = false
+is_refusal (contact address said) = false
 is_refusal (refused fault) = true
-is_refusal not_built = false
 
 -- These are the meanings of the lines, one after the other.
 abbrev pub AreMeanings : List (List ℕ) → List Meaning → Type 0
@@ -104,20 +138,12 @@ AreMeanings [] meanings = meanings ≡ []
 AreMeanings (line ∷ lines) [] = ⊥
 AreMeanings (line ∷ lines) (meaning ∷ meanings) = IsMeaning line meaning × AreMeanings lines meanings
 
--- One of the lines has a meaning that passes the test.
-pub record HasMeaning (Passes : Meaning → Type 0) (lines : List (List ℕ)) : Type 0 where
+-- Some line is refused.
+pub record HasRefused (lines : List (List ℕ)) : Type 0 where
   pub before : List (List ℕ)
   pub line : List ℕ
   pub behind : List (List ℕ)
   pub meaning : Meaning
   pub joined : lines ≡ before ++ line ∷ behind
   pub means : Means line meaning
-  pub passes : Passes meaning
-
--- Some line is refused.
-abbrev pub HasRefused : List (List ℕ) → Type 0
-HasRefused lines = HasMeaning (λ meaning. is_refusal meaning ≡ true) lines
-
--- Some line is of a form that is not built yet: its text is of the application AFN.
-abbrev pub HasUnbuilt : List (List ℕ) → Type 0
-HasUnbuilt lines = HasMeaning (λ meaning. meaning ≡ not_built) lines
+  pub passes : is_refusal meaning ≡ true

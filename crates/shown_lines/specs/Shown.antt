@@ -1,12 +1,11 @@
 -- The shown text of lines and of an input (this project's profile).
-use Rattle.std.specs.Prelude.{◌≡◌, ◌≢◌, ℕ, ◌+◌, List, [], ◌∷◌, ◌++◌, length, take, if◌then◌else◌}
-use Rattle.std.specs.List.{All}
+use Rattle.std.specs.Prelude.{◌≡◌, ℕ, ◌+◌, List, [], ◌∷◌, ◌++◌, length, take, if◌then◌else◌}
 use Rattle.adsc_io.specs.Lines.{script_lines}
 use Rattle.adsc_io.specs.Inputs.{IsOverLimit, lines_before_limit}
 use Rattle.shown_lines.specs.declared.show.LineShown.{LineShown}
-use Rattle.shown_lines.specs.declared.show.LineShown.TheVariants.{Right, Refused, NotBuilt}
+use Rattle.shown_lines.specs.declared.show.LineShown.TheVariants.{Right, Refused}
 use Rattle.shown_lines.specs.Meanings.{Meaning, Means, AreMeanings, is_refusal}
-use Rattle.shown_lines.specs.Meanings.Meaning.{uplink, downlink, refused, not_built}
+use Rattle.shown_lines.specs.Meanings.Meaning.{uplink, answer, downlink, contact, refused}
 use Rattle.shown_lines.specs.Texts.{line_text, lines_text, end_text}
 
 -- ---- one line
@@ -14,15 +13,15 @@ use Rattle.shown_lines.specs.Texts.{line_text, lines_text, end_text}
 -- How a line of this meaning is shown.
 abbrev pub way_shown : Meaning → LineShown
 way_shown (uplink address registration asked) = Right
+way_shown (answer address said) = Right
 way_shown (downlink address registration items) = Right
+way_shown (contact address said) = Right
 way_shown (refused fault) = Refused
-way_shown not_built = NotBuilt
 
 -- How many lines are refused that are shown so.
 abbrev pub refusals : LineShown → ℕ
 refusals Right = 0
 refusals Refused = 1
-refusals NotBuilt = 0
 
 -- What has one meaning, by this rule, is shown as the line of this number.
 pub record IsShownAs (number : ℕ) (IsMeant : Meaning → Type 0) (text : List ℕ) (way : LineShown) : Type 0 where
@@ -43,11 +42,10 @@ abbrev pub refusal_count : List Meaning → ℕ
 refusal_count [] = 0
 refusal_count (meaning ∷ meanings) = (if is_refusal meaning then 1 else 0) + refusal_count meanings
 
--- The text shows these lines, numbered from 1: each is built, and so many of them are refused.
+-- The text shows these lines, numbered from 1, of which so many are refused.
 pub record AreShown (lines : List (List ℕ)) (text : List ℕ) (refused : ℕ) : Type 0 where
   pub meanings : List Meaning
   pub each : AreMeanings lines meanings
-  pub built : All (λ meaning. meaning ≢ not_built) meanings
   pub counted : refused ≡ refusal_count meanings
   pub spelled : text ≡ lines_text 1 meanings
 
@@ -71,13 +69,3 @@ pub record IsShownFront (bytes text : List ℕ) : Type 0 where
   pub count : ℕ
   pub refused : ℕ
   pub shown : AreShown (take count (lines_before_limit bytes)) text refused
-
--- The text shows the lines of an input before the first one that is not built, which stands before the limit.
-pub record IsShownUnbuilt (bytes text : List ℕ) : Type 0 where
-  pub before : List (List ℕ)
-  pub line : List ℕ
-  pub behind : List (List ℕ)
-  pub joined : lines_before_limit bytes ≡ before ++ line ∷ behind
-  pub means : Means line not_built
-  pub refused : ℕ
-  pub shown : AreShown before text refused

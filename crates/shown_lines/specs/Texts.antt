@@ -18,9 +18,10 @@ use Rattle.shown_lines.specs.declared.refusal.TextRefusal.TheVariants as refusal
 use Rattle.output_fields.specs.Faults.{envelope_fault_fields, request_fault_fields}
 use Rattle.output_fields.specs.Fields.{comma, number_field}
 use Rattle.shown_lines.specs.Fields.{value_fields}
+use Rattle.shown_lines.specs.LogonTexts.{answer_lines, contact_lines}
 use Rattle.shown_lines.specs.UplinkTexts.{message_text}
 use Rattle.shown_lines.specs.Meanings.{Meaning, letter_of}
-use Rattle.shown_lines.specs.Meanings.Meaning.{uplink, downlink, refused, not_built}
+use Rattle.shown_lines.specs.Meanings.Meaning.{uplink, answer, downlink, contact, refused}
 
 -- ---- groups
 
@@ -76,6 +77,7 @@ refusal_fields refusal.Form = codes "FORM,0"
 refusal_fields (refusal.Envelope fault) = envelope_fault_fields fault
 refusal_fields (refusal.Request fault) = request_fault_fields fault
 refusal_fields (refusal.Payload fault) = payload_code fault.why ++ number_field fault.bit
+refusal_fields (refusal.Characters place) = codes "TEXT" ++ number_field place
 
 -- ---- lines
 
@@ -83,17 +85,25 @@ refusal_fields (refusal.Payload fault) = payload_code fault.why ++ number_field 
 unfoldable pub refusal_text : ℕ → TextRefusal → List ℕ
 refusal_text number fault = ended (codes "line" ++ number_field number ++ codes ",refused," ++ refusal_fields fault)
 
--- The line that says which way an ADS text goes, the ground facility and the aircraft.
-abbrev pub head_text : ℕ → Direction → List ℕ → List ℕ → List ℕ
-head_text number direction address registration =
-    ended (codes "line" ++ number_field number ++ codes "," ++ letter_of direction ++ codes "," ++ address ++ codes ",ADS," ++ registration)
+-- What the line of a text begins with: its number, which way the text goes, and the ground facility.
+abbrev pub text_fields : ℕ → Direction → List ℕ → List ℕ
+text_fields number direction address = codes "line" ++ number_field number ++ codes "," ++ letter_of direction ++ codes "," ++ address
 
--- What is shown for the line of this number and meaning; a line of a form that is not built is never shown.
+-- The line of an ADS text, with the aircraft.
+abbrev pub ads_head_text : ℕ → Direction → List ℕ → List ℕ → List ℕ
+ads_head_text number direction address registration = ended (text_fields number direction address ++ codes ",ADS," ++ registration)
+
+-- The line of an AFN text.
+abbrev pub afn_head_text : ℕ → Direction → List ℕ → List ℕ
+afn_head_text number direction address = ended (text_fields number direction address ++ codes ",AFN")
+
+-- What is shown for the line of this number and meaning.
 unfoldable pub line_text : ℕ → Meaning → List ℕ
-line_text number (uplink address registration asked) = head_text number Up address registration ++ flat_map message_text asked.messages.items
-line_text number (downlink address registration items) = head_text number Down address registration ++ flat_map item_text items
+line_text number (uplink address registration asked) = ads_head_text number Up address registration ++ flat_map message_text asked.messages.items
+line_text number (answer address said) = afn_head_text number Up address ++ answer_lines said
+line_text number (downlink address registration items) = ads_head_text number Down address registration ++ flat_map item_text items
+line_text number (contact address said) = afn_head_text number Down address ++ contact_lines said
 line_text number (refused fault) = refusal_text number fault
-line_text number not_built = []
 
 -- What is shown for the lines of these meanings, of which the first has this number.
 abbrev pub lines_text : ℕ → List Meaning → List ℕ

@@ -10,12 +10,12 @@ ghost use Rattle.shown_lines.specs.Texts.{place_field, group_text, report_text, 
 ghost use Rattle.shown_lines.specs.declared.room.TheConstants.{GROUP_ROOM, LINE_ROOM};
 
 use crate::groups::append_group;
-use crate::room::{ITEM_ROOM, ShownText};
+use crate::room::{ITEM_ROOM, Room};
 use adsc_downlink::{Item, Nack, Report, ReportGroup};
 use adsc_groups::Basic;
 
 /// Appends the lines of items, one item after the other.
-pub(crate) fn append_items(out: &mut ShownText, items: &[Item])
+pub(crate) fn append_items(out: &mut Room, items: &[Item])
     requires { length out.old + ITEM_ROOM * length items.now ≤ LINE_ROOM }
     ensures text { out.new ≡ out.old ++ flat_map item_text (map item_data items.now) }
 {
@@ -26,7 +26,7 @@ pub(crate) fn append_items(out: &mut ShownText, items: &[Item])
 
 /// Appends the lines of an item.
 #[tactic(auto, unfolding(crate::specs::Texts::item_text))]
-fn append_item(out: &mut ShownText, item: &Item)
+fn append_item(out: &mut Room, item: &Item)
     requires { length out.old + ITEM_ROOM ≤ LINE_ROOM }
     ensures text { out.new ≡ out.old ++ item_text (item_data item.now) }
     ensures size { length out.new ≤ length out.old + ITEM_ROOM }
@@ -41,7 +41,7 @@ fn append_item(out: &mut ShownText, item: &Item)
 }
 
 /// Appends the line of a negative acknowledgement.
-fn append_nack(out: &mut ShownText, nack: &Nack)
+fn append_nack(out: &mut Room, nack: &Nack)
     requires { length out.old + 38 ≤ LINE_ROOM }
     ensures text { out.new ≡ out.old ++ ended (codes "nack" ++ number_field nack.now.n
         ++ number_field nack.now.reason ++ place_field nack.now.reason nack.now.octet) }
@@ -55,7 +55,7 @@ fn append_nack(out: &mut ShownText, nack: &Nack)
 }
 
 /// Appends the place of the faulty octet, where the reason has one: reasons 1, 2 and 7.
-fn append_place(out: &mut ShownText, reason: u8, place: u8)
+fn append_place(out: &mut Room, reason: u8, place: u8)
     requires { length out.old + 11 ≤ LINE_ROOM }
     ensures text { out.new ≡ out.old ++ place_field reason place }
     ensures size { length out.new ≤ length out.old + 11 }
@@ -68,7 +68,7 @@ fn append_place(out: &mut ShownText, reason: u8, place: u8)
 
 /// Appends the line of a report and those of its groups.
 #[tactic(auto, unfolding(crate::specs::Texts::report_text))]
-fn append_report(out: &mut ShownText, report: &Report)
+fn append_report(out: &mut Room, report: &Report)
     requires { length out.old + ITEM_ROOM ≤ LINE_ROOM }
     ensures text { out.new ≡ out.old ++ report_text (report_data report.now) }
     ensures size { length out.new ≤ length out.old + ITEM_ROOM }
@@ -81,7 +81,7 @@ fn append_report(out: &mut ShownText, report: &Report)
 }
 
 /// Appends the basic data of a report.
-fn append_basic(out: &mut ShownText, basic: &Basic)
+fn append_basic(out: &mut Room, basic: &Basic)
     requires { length out.old + 84 ≤ LINE_ROOM }
     ensures text { out.new ≡ out.old ++ value_fields (basic_values (basic_data basic.now)) }
     ensures size { length out.new ≤ length out.old + 84 }
@@ -98,7 +98,7 @@ fn append_basic(out: &mut ShownText, basic: &Basic)
 }
 
 /// Appends the lines of groups, one group after the other.
-fn append_groups(out: &mut ShownText, groups: &[ReportGroup])
+fn append_groups(out: &mut Room, groups: &[ReportGroup])
     requires { length out.old + GROUP_ROOM * length groups.now ≤ LINE_ROOM }
     ensures text { out.new ≡ out.old ++ flat_map group_text (map report_group_data groups.now) }
     ensures size { length out.new ≤ length out.old + GROUP_ROOM * length groups.now }

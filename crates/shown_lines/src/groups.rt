@@ -6,12 +6,12 @@ ghost use Rattle.shown_lines.specs.Fields.{value_fields};
 ghost use Rattle.shown_lines.specs.Texts.{flight_character, group_values, group_text};
 ghost use Rattle.shown_lines.specs.declared.room.TheConstants.{LINE_ROOM};
 
-use crate::room::{GROUP_ROOM, ShownText};
+use crate::room::{GROUP_ROOM, Room};
 use adsc_groups::{Fixed, FlightId, Group, Intermediate, Motion, Route, Weather, group_tag};
 
 /// Appends the line of a group.
 #[tactic(auto, unfolding(crate::specs::Texts::group_text))]
-pub(crate) fn append_group(out: &mut ShownText, group: &Group)
+pub(crate) fn append_group(out: &mut Room, group: &Group)
     requires { length out.old + GROUP_ROOM ≤ LINE_ROOM }
     ensures text { out.new ≡ out.old ++ group_text (group_data group.now) }
     ensures size { length out.new ≤ length out.old + GROUP_ROOM }
@@ -23,7 +23,7 @@ pub(crate) fn append_group(out: &mut ShownText, group: &Group)
 }
 
 /// Appends the values of a group, a comma before each.
-fn append_group_values(out: &mut ShownText, group: &Group)
+fn append_group_values(out: &mut Room, group: &Group)
     requires { length out.old + 84 ≤ LINE_ROOM }
     ensures text { out.new ≡ out.old ++ group_values (group_data group.now) }
     ensures size { length out.new ≤ length out.old + 84 }
@@ -41,7 +41,7 @@ fn append_group_values(out: &mut ShownText, group: &Group)
 }
 
 /// Appends a comma and the eight characters of a flight identification.
-fn append_flight_id(out: &mut ShownText, id: &FlightId)
+fn append_flight_id(out: &mut Room, id: &FlightId)
     requires { length out.old + 9 ≤ LINE_ROOM }
     ensures text { out.new ≡ out.old
         ++ comma ∷ map (λ code. flight_character (unsigned_abs code)) (flight_id_values id.now) }
@@ -73,7 +73,7 @@ fn character_of(code: u8) -> u8
 }
 
 /// Appends the values of a predicted route.
-fn append_route(out: &mut ShownText, route: &Route)
+fn append_route(out: &mut Room, route: &Route)
     requires { length out.old + 84 ≤ LINE_ROOM }
     ensures text { out.new ≡ out.old ++ value_fields (route_values route.now) }
     ensures size { length out.new ≤ length out.old + 84 }
@@ -90,7 +90,7 @@ fn append_route(out: &mut ShownText, route: &Route)
 }
 
 /// Appends the values of an earth or an air reference.
-fn append_motion(out: &mut ShownText, motion: &Motion)
+fn append_motion(out: &mut Room, motion: &Motion)
     requires { length out.old + 48 ≤ LINE_ROOM }
     ensures text { out.new ≡ out.old ++ value_fields (motion_values motion.now) }
     ensures size { length out.new ≤ length out.old + 48 }
@@ -104,7 +104,7 @@ fn append_motion(out: &mut ShownText, motion: &Motion)
 }
 
 /// Appends the values of a meteorological group.
-fn append_weather(out: &mut ShownText, weather: &Weather)
+fn append_weather(out: &mut Room, weather: &Weather)
     requires { length out.old + 48 ≤ LINE_ROOM }
     ensures text { out.new ≡ out.old ++ value_fields (weather_values weather.now) }
     ensures size { length out.new ≤ length out.old + 48 }
@@ -118,7 +118,7 @@ fn append_weather(out: &mut ShownText, weather: &Weather)
 }
 
 /// Appends the values of an intermediate projected intent.
-fn append_intermediate(out: &mut ShownText, intermediate: &Intermediate)
+fn append_intermediate(out: &mut Room, intermediate: &Intermediate)
     requires { length out.old + 60 ≤ LINE_ROOM }
     ensures text { out.new ≡ out.old ++ value_fields (intermediate_values intermediate.now) }
     ensures size { length out.new ≤ length out.old + 60 }
@@ -133,7 +133,7 @@ fn append_intermediate(out: &mut ShownText, intermediate: &Intermediate)
 }
 
 /// Appends the values of a fixed projected intent.
-fn append_fixed(out: &mut ShownText, fixed: &Fixed)
+fn append_fixed(out: &mut Room, fixed: &Fixed)
     requires { length out.old + 48 ≤ LINE_ROOM }
     ensures text { out.new ≡ out.old ++ value_fields (fixed_values fixed.now) }
     ensures size { length out.new ≤ length out.old + 48 }

@@ -2,15 +2,21 @@
 //!
 //! A test bench has a file of uplink and downlink texts, one a line, and wants to read them. This crate reads a line and
 //! writes the lines that show what it says, or where it is wrong, into room that is taken once. The command `show` of
-//! `adsc_bench` stands above it: it brings the lines one by one and takes their text away. Begin with specs/Meanings.antt,
-//! which says what a line means, then specs/Texts.antt and specs/UplinkTexts.antt, which say how a meaning is shown, and
-//! specs/Shown.antt, which says it of a whole input; then `show` and `room`.
+//! `adsc_bench` stands above it: it brings the lines one by one and takes their text away. What a text from the ground says
+//! is read by `ground_texts`; texts from the aircraft are read here, with the crates of envelopes, downlinks and logons.
+//!
+//! Begin with specs/Meanings.antt, which says what a line means, then specs/Texts.antt, specs/UplinkTexts.antt and
+//! specs/LogonTexts.antt, which say how a meaning is shown, and specs/Shown.antt, which says it of a whole input; then
+//! `show`, `ground` and `room`.
 #![tactic(auto)]
 
 mod direction;
 mod downlink;
+mod ground;
 mod groups;
+mod head;
 mod laws;
+mod logon;
 mod refusal;
 mod room;
 mod show;
@@ -18,8 +24,7 @@ mod uplink;
 
 pub use laws::lines_have_one_shown_text;
 pub use refusal::TextRefusal;
-pub use room::{LINE_ROOM, ShownText};
-pub use show::LineShown;
+pub use show::{LineShown, ShownText};
 
 #[cfg(test)]
 mod tests;

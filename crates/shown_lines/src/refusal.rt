@@ -3,7 +3,7 @@ ghost use Rattle.std.specs.Prelude.{◌≡◌, ◌+◌, ◌≤◌, ◌++◌, len
 ghost use Rattle.shown_lines.specs.Texts.{payload_code, refusal_fields, refusal_text};
 ghost use Rattle.shown_lines.specs.declared.room.TheConstants.{LINE_ROOM};
 
-use crate::room::ShownText;
+use crate::room::Room;
 use acars_envelope::EnvelopeRefusal;
 use adsc_downlink::{DownRefusal, DownWhy};
 use adsc_io::MAX_LINE_BYTES;
@@ -22,11 +22,16 @@ pub enum TextRefusal {
     Request(Refusal),
     /// The payload of the envelope is no downlink: its first fault.
     Payload(DownRefusal),
+    /// The characters of the AFN text are no answer behind `U,`, or no contact behind `D,`.
+    Characters {
+        /// The place of their first mismatch, counted from 0 in the whole text.
+        place: u32,
+    },
 }
 
 /// Appends the line of a refusal, with the number of the line that is refused.
 #[tactic(auto, unfolding(crate::specs::Texts::refusal_text))]
-pub(crate) fn append_refusal(out: &mut ShownText, number: u32, refusal: &TextRefusal)
+pub(crate) fn append_refusal(out: &mut Room, number: u32, refusal: &TextRefusal)
     requires { length out.old + 55 ≤ LINE_ROOM }
     ensures text { out.new ≡ out.old ++ refusal_text number refusal.now }
 {
@@ -38,7 +43,7 @@ pub(crate) fn append_refusal(out: &mut ShownText, number: u32, refusal: &TextRef
 }
 
 /// Appends the code of a refusal and what stands behind it.
-fn append_refusal_fields(out: &mut ShownText, refusal: &TextRefusal)
+fn append_refusal_fields(out: &mut Room, refusal: &TextRefusal)
     requires { length out.old + 30 ≤ LINE_ROOM }
     ensures text { out.new ≡ out.old ++ refusal_fields refusal.now }
     ensures size { length out.new ≤ length out.old + 30 }
@@ -55,11 +60,15 @@ fn append_refusal_fields(out: &mut ShownText, refusal: &TextRefusal)
             append_payload_code(out, fault.why);
             out.append_number(fault.bit);
         }
+        TextRefusal::Characters { place } => {
+            out.append(b"TEXT");
+            out.append_number(*place);
+        }
     }
 }
 
 /// Appends the code of a payload's fault.
-fn append_payload_code(out: &mut ShownText, why: DownWhy)
+fn append_payload_code(out: &mut Room, why: DownWhy)
     requires { length out.old + 10 ≤ LINE_ROOM }
     ensures text { out.new ≡ out.old ++ payload_code why }
     ensures size { length out.new ≤ length out.old + 10 }

@@ -1,4 +1,4 @@
-//! The text that shows a line, in room that is taken once.
+//! Room for the text of a line, taken once.
 ghost use Rattle.std.specs.Prelude.{◌≡◌, ◌+◌, ◌*◌, ◌≤◌, [], ◌∷◌, ◌++◌, length, IfOk};
 ghost use Rattle.acars_envelope.specs.Texts.{six_digits};
 ghost use Rattle.adsc_io.specs.Lines.{ended};
@@ -26,40 +26,38 @@ pub(crate) const MESSAGE_ROOM: usize = 238;
 /// The most bytes that the line has which says where a text comes from and where it goes.
 pub(crate) const HEAD_ROOM: usize = 38;
 
-/// The most bytes that show one line: where it comes from and goes, and eight downlink items. This project's profile.
-pub const LINE_ROOM: usize = HEAD_ROOM + 8 * ITEM_ROOM;
+/// The most bytes that show one line: where it comes from and goes, and eight downlink items.
+pub(crate) const LINE_ROOM: usize = HEAD_ROOM + 8 * ITEM_ROOM;
 
-/// The text that shows a line, in room that is taken once. This project's profile.
-///
-/// It has room for each line's text, so showing a line takes no memory.
+/// Text in room that is taken once: there is room for what shows any line, so appending takes no memory.
 #[derive(Drop)]
-pub struct ShownText {
+pub(crate) struct Room {
     bytes: Vec<u8>,
 }
 
-impl Model for ShownText {
+impl Model for Room {
     ghost use Rattle.std.specs.Prelude.{ℕ, ◌≤◌, List, vec_capacity};
     ghost use Rattle.shown_lines.specs.declared.room.TheConstants.{LINE_ROOM};
 
     ghost Value = { List ℕ };
 
-    ghost view = { λ text. text.bytes.items };
+    ghost view = { λ room. room.bytes.items };
 
-    ghost invariant = { λ text. LINE_ROOM ≤ vec_capacity text.bytes };
+    ghost invariant = { λ room. LINE_ROOM ≤ vec_capacity room.bytes };
 }
 
-impl ShownText {
-    /// No text, with room for that of any line. `NoMemory` is the only refusal.
-    pub fn new(alloc: Global) -> Result<ShownText, NoMemory>
-        ensures { IfOk result (λ text. text ≡ []) }
+impl Room {
+    /// No text.
+    pub(crate) fn new(alloc: Global) -> Result<Room, NoMemory>
+        ensures { IfOk result (λ room. room ≡ []) }
     {
-        Ok(ShownText {
+        Ok(Room {
             bytes: Vec::with_capacity(alloc, LINE_ROOM)?,
         })
     }
 
     /// The text.
-    pub fn bytes(&self) -> &[u8]
+    pub(crate) fn bytes(&self) -> &[u8]
         ensures { result.now ≡ self.now }
     {
         &self.bytes

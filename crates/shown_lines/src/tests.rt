@@ -4,7 +4,7 @@ use adsc_io::{Line, LineReader, SteadySource};
 use std::alloc::Global;
 use std::test::Fail;
 
-/// What is shown for an input of fewer than 100 lines: its shown text, or what is shown before a line that is not built.
+/// What is shown for an input of fewer than 100 lines.
 fn text_of(alloc: Global, bytes: &[u8]) -> Result<Vec<u8>, Fail> {
     let mut source = SteadySource::new(alloc, bytes, 1_000)?;
     let mut reader = LineReader::new(alloc)?;
@@ -17,9 +17,6 @@ fn text_of(alloc: Global, bytes: &[u8]) -> Result<Vec<u8>, Fail> {
             Ok(Line::TooLong) => shown.show_long(reader.number()),
             _ => break,
         };
-        if way == LineShown::NotBuilt {
-            return Ok(text);
-        }
         if way == LineShown::Refused {
             refused = refused.saturating_add(1);
         }
@@ -33,7 +30,7 @@ fn text_of(alloc: Global, bytes: &[u8]) -> Result<Vec<u8>, Fail> {
 #[test]
 fn each_kind_of_line(rt: HostRuntime) -> Result<(), Fail> {
     let alloc = rt.alloc();
-    let table: [(&str, &str); 14] = [
+    let table: [(&str, &str); 15] = [
         (
             // each item
             "D,/AKLCDYA.ADS.N1234503010402060403010505040115400600D6DA\n",
@@ -85,13 +82,24 @@ fn each_kind_of_line(rt: HostRuntime) -> Result<(), Fail> {
             "line,1,refused,FORM,0\nline,2,refused,FORM,0\nline,3,D,AKLCDYA,ADS,.N12345\nack,1\nend,3,2\n",
         ),
         (
-            "hello\nU,/AKLCDYA.AFN/FMHANZ1,.N12345/FAK0/FARADS,05087\n",
-            "line,1,refused,FORM,0\n",
+            // answers: one application, and four
+            "hello\nU,/AKLCDYA.AFN/FMHANZ1,.N12345/FAK0/FARADS,05087\nU,/AKLCDYA.AFN/FMHA,ZK-ABCD/FAK9/FARADS,0/FARATC,9/FARXYZ,1/FARABC,29B90\n",
+            "line,1,refused,FORM,0\nline,2,U,AKLCDYA,AFN\nanswer,ANZ1,.N12345,0\napplication,ADS,0\nline,3,U,AKLCDYA,AFN\nanswer,A,ZK-ABCD,9\napplication,ADS,0\napplication,ATC,9\napplication,XYZ,1\napplication,ABC,2\nend,3,1\n",
         ),
-        ("D,/GRND001.AFN/FMHANZ1,.N12345/FAK0/FARADS,05087\n", ""),
         (
-            "D,/GRND001.AFN/FMHANZ1,.N12345,C81234,000000/FPON00000E000000,0/FCOADS,013093\n",
-            "",
+            // contacts: one application, and four with the longest flight and no airframe
+            "D,/GRND001.AFN/FMHANZ1,.N12345,C81234,000000/FPON00000E000000,0/FCOADS,013093\nD,/GRND001.AFN/FMHQFA12345,ZK-ABCD,,235959/FPOS89599W179599,1/FCOADS,01/FCOATC,99/FCOXYZ,00/FCOABC,1029A4\n",
+            "line,1,D,GRND001,AFN\ncontact,ANZ1,.N12345,C81234,000000,N00000E000000,0\napplication,ADS,01\nline,2,D,GRND001,AFN\ncontact,QFA12345,ZK-ABCD,,235959,S89599W179599,1\napplication,ADS,01\napplication,ATC,99\napplication,XYZ,00\napplication,ABC,10\nend,2,0\n",
+        ),
+        (
+            // characters that are no answer, and a contact behind the letter of the ground
+            "U,/AKLCDYA.AFNx1D46\nU,/AKLCDYA.AFN/FMHANZ1,.N12345/FAK07A34\nU,/AKLCDYA.AFN/FMHANZ1,.N12345/FAK0/FARADS,0/FARADS,0/FARADS,0/FARADS,0/FARADS,047CF\nU,/GRND001.AFN/FMHANZ1,.N12345,C81234,000000/FPON00000E000000,0/FCOADS,013093\n",
+            "line,1,refused,TEXT,12\nline,2,refused,TEXT,33\nline,3,refused,TEXT,69\nline,4,refused,TEXT,28\nend,4,4\n",
+        ),
+        (
+            // characters that are no contact, and an answer behind the letter of the aircraft
+            "D,/AKLCDYA.AFN/FMHANZ1AA90\nD,/AKLCDYA.AFN/FMHANZ1,.N12345,,2460004F23\nD,/AKLCDYA.AFN/FMHANZ1,.N12345,C81234,000000/FPON90001E000000,0/FCOADS,019A1A\nD,/GRND001.AFN/FMHANZ1,.N12345/FAK0/FARADS,05087\n",
+            "line,1,refused,TEXT,20\nline,2,refused,TEXT,31\nline,3,refused,TEXT,51\nline,4,refused,TEXT,28\nend,4,4\n",
         ),
     ];
     for (lines, shown) in table {

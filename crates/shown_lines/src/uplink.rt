@@ -3,11 +3,11 @@ ghost use Rattle.std.specs.Prelude.{◌≡◌, ◌+◌, ◌*◌, ◌≤◌, ◌+
 ghost use Rattle.shown_lines.specs.UplinkTexts.{lateral_text, interval_text, modulus_text, moduli_text, vrate_text, range_text, waypoint_text, intent_text, reporting_text, limits_text, message_text};
 ghost use Rattle.shown_lines.specs.declared.room.TheConstants.{LINE_ROOM};
 
-use crate::room::{MESSAGE_ROOM, ShownText};
+use crate::room::{MESSAGE_ROOM, Room};
 use adsc_requests::{Intent, Limits, Message, Moduli, Range, interval_seconds};
 
 /// Appends the lines of messages, one message after the other.
-pub(crate) fn append_messages(out: &mut ShownText, messages: &[Message])
+pub(crate) fn append_messages(out: &mut Room, messages: &[Message])
     requires { length out.old + MESSAGE_ROOM * length messages.now ≤ LINE_ROOM }
     ensures text { out.new ≡ out.old ++ flat_map message_text messages.now }
 {
@@ -18,7 +18,7 @@ pub(crate) fn append_messages(out: &mut ShownText, messages: &[Message])
 
 /// Appends the lines of a message.
 #[tactic(auto, unfolding(crate::specs::UplinkTexts::message_text))]
-fn append_message(out: &mut ShownText, message: &Message)
+fn append_message(out: &mut Room, message: &Message)
     requires { length out.old + MESSAGE_ROOM ≤ LINE_ROOM }
     ensures text { out.new ≡ out.old ++ message_text message.now }
     ensures size { length out.new ≤ length out.old + MESSAGE_ROOM }
@@ -54,12 +54,7 @@ fn append_message(out: &mut ShownText, message: &Message)
 
 /// Appends the lines of the groups of a periodic or an emergency periodic request, by rising tag.
 #[tactic(auto, unfolding(crate::specs::UplinkTexts::reporting_text))]
-fn append_reporting(
-    out: &mut ShownText,
-    interval: Option<u8>,
-    groups: &Moduli,
-    intent: &Option<Intent>,
-)
+fn append_reporting(out: &mut Room, interval: Option<u8>, groups: &Moduli, intent: &Option<Intent>)
     requires { length out.old + 217 ≤ LINE_ROOM }
     ensures text { out.new ≡ out.old ++ reporting_text interval groups.now.m intent.now }
     ensures size { length out.new ≤ length out.old + 217 }
@@ -71,7 +66,7 @@ fn append_reporting(
 
 /// Appends the lines of the groups of an event request, by rising tag.
 #[tactic(auto, unfolding(crate::specs::UplinkTexts::limits_text))]
-fn append_limits(out: &mut ShownText, limits: &Limits)
+fn append_limits(out: &mut Room, limits: &Limits)
     requires { length out.old + 76 ≤ LINE_ROOM }
     ensures text { out.new ≡ out.old ++ limits_text limits.now }
     ensures size { length out.new ≤ length out.old + 76 }
@@ -83,7 +78,7 @@ fn append_limits(out: &mut ShownText, limits: &Limits)
 }
 
 /// Appends the line of a lateral deviation threshold, where there is one.
-fn append_lateral(out: &mut ShownText, lateral: Option<u8>)
+fn append_lateral(out: &mut Room, lateral: Option<u8>)
     requires { length out.old + 19 ≤ LINE_ROOM }
     ensures text { out.new ≡ out.old ++ lateral_text lateral }
     ensures size { length out.new ≤ length out.old + 19 }
@@ -94,7 +89,7 @@ fn append_lateral(out: &mut ShownText, lateral: Option<u8>)
 }
 
 /// Appends the line of a reporting interval, in seconds, where there is one.
-fn append_interval(out: &mut ShownText, interval: Option<u8>)
+fn append_interval(out: &mut Room, interval: Option<u8>)
     requires { length out.old + 20 ≤ LINE_ROOM }
     ensures text { out.new ≡ out.old ++ interval_text interval }
     ensures size { length out.new ≤ length out.old + 20 }
@@ -105,7 +100,7 @@ fn append_interval(out: &mut ShownText, interval: Option<u8>)
 }
 
 /// Appends the lines of reporting moduli, of which the first belongs to the group of tag 12.
-fn append_moduli(out: &mut ShownText, moduli: &[Option<u8>; 6])
+fn append_moduli(out: &mut Room, moduli: &[Option<u8>; 6])
     requires { length out.old + 168 ≤ LINE_ROOM }
     ensures text { out.new ≡ out.old ++ moduli_text 12 moduli.now }
     ensures size { length out.new ≤ length out.old + 168 }
@@ -116,7 +111,7 @@ fn append_moduli(out: &mut ShownText, moduli: &[Option<u8>; 6])
 }
 
 /// Appends the line of a reporting modulus, where there is one, with the tag of its group.
-fn append_modulus(out: &mut ShownText, tag: u8, modulus: Option<u8>)
+fn append_modulus(out: &mut Room, tag: u8, modulus: Option<u8>)
     requires { length out.old + 28 ≤ LINE_ROOM }
     ensures text { out.new ≡ out.old ++ modulus_text tag modulus }
     ensures size { length out.new ≤ length out.old + 28 }
@@ -131,7 +126,7 @@ fn append_modulus(out: &mut ShownText, tag: u8, modulus: Option<u8>)
 }
 
 /// Appends the line of a vertical rate threshold, where there is one.
-fn append_vrate(out: &mut ShownText, vrate: Option<i8>)
+fn append_vrate(out: &mut Room, vrate: Option<i8>)
     requires { length out.old + 18 ≤ LINE_ROOM }
     ensures text { out.new ≡ out.old ++ vrate_text vrate }
     ensures size { length out.new ≤ length out.old + 18 }
@@ -145,7 +140,7 @@ fn append_vrate(out: &mut ShownText, vrate: Option<i8>)
 }
 
 /// Appends the line of an altitude range, where there is one.
-fn append_range(out: &mut ShownText, range: &Option<Range>)
+fn append_range(out: &mut Room, range: &Option<Range>)
     requires { length out.old + 30 ≤ LINE_ROOM }
     ensures text { out.new ≡ out.old ++ range_text range.now }
     ensures size { length out.new ≤ length out.old + 30 }
@@ -160,7 +155,7 @@ fn append_range(out: &mut ShownText, range: &Option<Range>)
 }
 
 /// Appends the line of a change of the active waypoint, where it is watched.
-fn append_waypoint(out: &mut ShownText, waypoint: bool)
+fn append_waypoint(out: &mut Room, waypoint: bool)
     requires { length out.old + 9 ≤ LINE_ROOM }
     ensures text { out.new ≡ out.old ++ waypoint_text waypoint }
     ensures size { length out.new ≤ length out.old + 9 }
@@ -171,7 +166,7 @@ fn append_waypoint(out: &mut ShownText, waypoint: bool)
 }
 
 /// Appends the line of an aircraft intent, where one is asked for.
-fn append_intent(out: &mut ShownText, intent: &Option<Intent>)
+fn append_intent(out: &mut Room, intent: &Option<Intent>)
     requires { length out.old + 29 ≤ LINE_ROOM }
     ensures text { out.new ≡ out.old ++ intent_text intent.now }
     ensures size { length out.new ≤ length out.old + 29 }

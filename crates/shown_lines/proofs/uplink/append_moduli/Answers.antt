@@ -1,4 +1,4 @@
-use Rattle.std.proofs.Common.{◌++◌, ◌∙◌, ap, sym, take, append_assoc, arith, rules}
+use Rattle.std.proofs.Common.{◌++◌, ◌∙◌, ap, sym, take, append_assoc, arith}
 use Rattle.shown_lines.specs.UplinkTexts.{moduli_text}
 use Rattle.shown_lines.proofs.UplinkLaws.{moduli_text-more}
 use Rattle.shown_lines.proofs.uplink.append_moduli.Goals as goal

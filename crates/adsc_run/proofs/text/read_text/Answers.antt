@@ -1,5 +1,0 @@
-use Rattle.adsc_run.proofs.TextLaws.{text_of_body}
-use Rattle.adsc_run.proofs.text.read_text.Goals as goal
-
-pub returns-in-Ok : goal.returns-in-Ok
-returns-in-Ok c = text_of_body c.args.text.now c.in-Ok.envelope c.read_body.result c.in-Ok.ensures.found c.read_body.ensures

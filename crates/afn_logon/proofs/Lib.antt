@@ -1,0 +1,11 @@
+pub mod Readers
+pub mod PassingLaws
+pub mod RunLaws
+pub mod NameLaws
+pub mod NumberLaws
+pub mod FieldLaws
+pub mod FormLaws
+pub mod SizeLaws
+pub mod ValueLaws
+pub mod LoopLaws
+pub mod PlaceLaws

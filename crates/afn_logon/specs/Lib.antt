@@ -1,0 +1,9 @@
+pub mod Applications
+pub mod Contents
+pub mod Texts
+pub mod Mismatch
+pub mod Forms
+pub mod Makings
+pub mod Logons
+pub mod Kinds
+pub mod Reading

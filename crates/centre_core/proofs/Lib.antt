@@ -1,0 +1,10 @@
+pub mod StandingLaws
+pub mod RowLaws
+pub mod NumberLaws
+pub mod TableLaws
+pub mod CallLaws
+pub mod SendingLaws
+pub mod WholeOctets
+pub mod HearingLaws
+pub mod ItemsLaws
+pub mod AnswerLaws

@@ -1,0 +1,12 @@
+pub mod Events
+pub mod Answers
+pub mod Rows
+pub mod Tables
+pub mod Histories
+pub mod Steps
+pub mod Sending
+pub mod View
+pub mod Hearing
+pub mod Heard
+pub mod Laws
+pub mod Worked

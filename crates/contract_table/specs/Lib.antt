@@ -1,0 +1,17 @@
+pub mod Acts
+pub mod Changes
+pub mod ConnectionDues
+pub mod Connections
+pub mod Dues
+pub mod Events
+pub mod Laws
+pub mod Messages
+pub mod NextConnection
+pub mod NextTable
+pub mod Ordered
+pub mod Places
+pub mod Seen
+pub mod Sending
+pub mod Sound
+pub mod Tables
+pub mod Verdicts

@@ -1,0 +1,5 @@
+pub mod TextLaws
+pub mod EachEnvelope
+pub mod EachUplink
+pub mod EachAnswer
+pub mod EachText
