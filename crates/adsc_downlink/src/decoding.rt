@@ -28,8 +28,8 @@ use arrayvec::ArrayVec;
 /// The items whose encoding the payload is, whatever its padding. The payload has at most 255
 /// octets.
 ///
-/// Source: RTCA DO-258A / EUROCAE ED-100A; the limits and the first fault are this project's
-/// profile.
+/// The items follow RTCA DO-258A / EUROCAE ED-100A; the layout, the limits and the first fault are
+/// this project's profile.
 ///
 /// # Errors
 ///

@@ -30,7 +30,8 @@ pub fn downlink_size(items: &Items) -> u32
 /// The payload that carries the items: their one encoding whose padding is zeros. It has at most
 /// 255 octets, as `downlink_size` tells.
 ///
-/// Source: RTCA DO-258A / EUROCAE ED-100A; the limit and the padding are this project's profile.
+/// The items follow RTCA DO-258A / EUROCAE ED-100A; layout, limit and padding are this project's
+/// profile.
 #[tactic(auto, unfolding(crate::specs::Items::downlink_bits))]
 pub fn encode_downlink(items: &Items) -> ArrayVec<u8, 255>
     requires { length (downlink_bits (items_data items.now)) ≤ 2040 }
@@ -48,7 +49,8 @@ pub fn encode_downlink(items: &Items) -> ArrayVec<u8, 255>
 /// Items that are written one behind the other are a payload as `encode_downlink` gives it, and no
 /// list of them is needed.
 ///
-/// Source: RTCA DO-258A / EUROCAE ED-100A; zeros as padding are this project's profile.
+/// The items follow RTCA DO-258A / EUROCAE ED-100A; the layout, with zeros as padding, is this
+/// project's profile.
 pub fn encode_item(item: &Item, out: &mut BitWriter)
     requires { length out.old + length (item_bits (item_data item.now)) ≤ 2040 }
     ensures bits { out.new ≡ out.old ++ item_bits (item_data item.now) }

@@ -7,7 +7,8 @@ use crate::report::Report;
 
 /// A negative acknowledgement: a message that the aircraft refuses, and why.
 ///
-/// Source: RTCA DO-258A / EUROCAE ED-100A.
+/// Source: RTCA DO-258A / EUROCAE ED-100A for what is sent and its tag; the layout is this project's
+/// profile.
 #[derive(Clone, Copy, Debug, PartialEq, Eq)]
 pub struct Nack {
     /// The number of the contract that was asked for.
@@ -23,7 +24,8 @@ pub struct Nack {
 
 /// A downlink item.
 ///
-/// Source: RTCA DO-258A / EUROCAE ED-100A.
+/// Source: RTCA DO-258A / EUROCAE ED-100A for what is sent and its tag; the layout is this project's
+/// profile.
 #[derive(Debug, PartialEq, Eq, Drop)]
 pub enum Item {
     /// Acknowledgement of a contract, tag 3.

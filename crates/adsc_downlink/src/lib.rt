@@ -1,5 +1,6 @@
 //! The downlink items of ADS-C: what an aircraft sends to a centre, acknowledgements and reports,
-//! and the octets in which it sends them (RTCA DO-258A / EUROCAE ED-100A).
+//! and the octets in which it sends them. The items and their tags follow RTCA DO-258A / EUROCAE
+//! ED-100A; the layout is this project's profile.
 //!
 //! A payload is one to eight items. This crate has a type for each of them, an encoder that writes
 //! the one canonical encoding of items, and a decoder that reads every encoding, or says at which

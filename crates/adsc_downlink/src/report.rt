@@ -15,7 +15,8 @@ pub struct ReportGroup(pub Group);
 /// A report. Its groups may stand in any order and several times; an aircraft sends each at most
 /// once, by rising tag.
 ///
-/// Source: RTCA DO-258A / EUROCAE ED-100A, ARINC 745.
+/// Source: RTCA DO-258A / EUROCAE ED-100A, ARINC 745 for what a report is; the layout of its groups is
+/// this project's profile.
 #[derive(Debug, PartialEq, Eq, Drop)]
 pub struct Report {
     /// What the report answers: basic 7, emergency 9, lateral event 10, vertical rate event 18,

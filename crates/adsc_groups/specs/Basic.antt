@@ -1,4 +1,4 @@
--- The basic data of a report (RTCA DO-258A / EUROCAE ED-100A, ARINC 745).
+-- The basic data of a report: 80 bits in the order of RTCA DO-258A / EUROCAE ED-100A and ARINC 745. The units are this project's profile.
 use Rattle.std.specs.Prelude.{ℕ, ℤ, pos, Bool, List, [], ◌∷◌}
 use Rattle.adsc_groups.specs.Fields.{Field, fields_bits}
 use Rattle.adsc_groups.specs.Fields.Field.{number, signed, padding}

@@ -1,4 +1,4 @@
--- The report groups by their tags (RTCA DO-258A / EUROCAE ED-100A).
+-- The report groups by their tags (RTCA DO-258A / EUROCAE ED-100A for the tags; the layout is this project's profile).
 use Rattle.std.specs.Prelude.{◌≡◌, ℕ, ℤ, Bool, false, List, ◌||◌, ◌&&◌, ◌==◌, ◌⊎◌, nat_le, IsTrue, Result, Ok, Err, if◌then◌else◌}
 use Rattle.bit_terms.specs.Reading.{Unread, refused_as, ◌>>=◌}
 use Rattle.adsc_groups.specs.Fields.{Field, Encodes, FitFields, WereRead, IsFirstCut, fields_bits, fields_at}

@@ -1,4 +1,5 @@
--- The tables of fields of the report groups (RTCA DO-258A / EUROCAE ED-100A, ARINC 745; the layout is this project's profile).
+-- The tables of fields of the report groups. The groups are those of RTCA DO-258A / EUROCAE ED-100A and ARINC 745; the orders, widths and
+-- padding of their fields are this project's profile.
 use Rattle.std.specs.Prelude.{List, [], ◌∷◌}
 use Rattle.adsc_groups.specs.Fields.{Field}
 use Rattle.adsc_groups.specs.Fields.Field.{number, signed, padding}

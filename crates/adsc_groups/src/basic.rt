@@ -9,7 +9,8 @@ pub use coding::{decode_basic, encode_basic};
 
 /// Where the aircraft is, when, and how well it knows it. The data with which each report begins.
 ///
-/// Source: RTCA DO-258A / EUROCAE ED-100A, ARINC 745.
+/// Source: RTCA DO-258A / EUROCAE ED-100A, ARINC 745 for its 80 bits and their order; the units are
+/// this project's profile.
 #[derive(Clone, Copy, Debug, PartialEq, Eq)]
 pub struct Basic {
     /// Latitude in 180/2^20 degree, north positive, a signed number of 21 bits.

@@ -7,7 +7,8 @@ pub use coding::{decode_group, encode_group, group_octets, group_tag};
 
 /// A report group.
 ///
-/// Source: RTCA DO-258A / EUROCAE ED-100A, ARINC 745.
+/// Source: RTCA DO-258A / EUROCAE ED-100A, ARINC 745 for the names and tags; fields and units are
+/// this project's profile.
 #[derive(Clone, Copy, Debug, PartialEq, Eq)]
 pub enum Group {
     /// Flight identification, tag 12.

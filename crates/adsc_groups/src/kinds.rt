@@ -1,6 +1,7 @@
 //! The groups that a report can carry behind its basic data.
 //!
-//! Source for all of them: RTCA DO-258A / EUROCAE ED-100A, ARINC 745. A field holds each number of
+//! The groups and their names follow RTCA DO-258A / EUROCAE ED-100A and ARINC 745; which fields a
+//! group has, their widths and their units are this project's profile. A field holds each number of
 //! its bits.
 
 ghost use Rattle.std.specs.Prelude.{◌≡◌, ℕ, ◌^◌, ◌<◌, length, slice_index};

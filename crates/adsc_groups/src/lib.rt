@@ -1,5 +1,9 @@
-//! The report groups of ADS-C: what a report says of the flight, and the bits in which it says it
-//! (RTCA DO-258A / EUROCAE ED-100A, ARINC 745).
+//! The report groups of ADS-C: what a report says of the flight, and the bits in which it says it.
+//!
+//! The groups, their names and their tags follow RTCA DO-258A / EUROCAE ED-100A and ARINC 745. Of
+//! the layout only that of the basic data is theirs: 80 bits, in the order latitude, longitude,
+//! altitude, seconds past the hour, remaining bits. The orders, widths and padding of the fields of
+//! groups, and all units, are this project's profile.
 //!
 //! A report begins with basic data, and groups follow it, each behind its tag. This crate has a
 //! type for each of them, an encoder that writes its one canonical encoding, and a decoder that

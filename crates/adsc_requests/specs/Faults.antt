@@ -1,5 +1,5 @@
 -- The first fault of a payload: a sound beginning, and the row of the table of faults that applies behind it.
--- After RTCA DO-258A / EUROCAE ED-100A in this project's profile.
+-- This project's profile.
 use Rattle.std.specs.Prelude.{◌≡◌, ℕ, ◌+◌, ◌%◌, ◌<◌, ◌≤◌, List, [], ◌∷◌, ◌++◌, length, take, true, false, ◌==◌, nat_lt, Option, Some, None, if◌then◌else◌}
 use Rattle.adsc_requests.specs.Tables.{is_message_tag, allows, data_size, field_size, value_reason, repeat_reason}
 use Rattle.adsc_requests.specs.Contents.{Content, has_tag}

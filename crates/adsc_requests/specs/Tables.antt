@@ -1,6 +1,6 @@
 -- The tables of the uplink format: tags, which groups a message may have, the size and the admitted values of a
--- group's data. Grammar, faults, reading and writing all cite them. After RTCA DO-258A / EUROCAE ED-100A in
--- this project's profile.
+-- group's data. Grammar, faults, reading and writing all cite them. The tags follow RTCA DO-258A / EUROCAE ED-100A;
+-- the octets of a group's data and the reasons' numbers are this project's profile.
 use Rattle.std.specs.Prelude.{ℕ, List, Bool, false, ◌&&◌, ◌||◌, ◌==◌, nat_le, Option, Some, None, if◌then◌else◌, slice_index, take, drop, ℤ, int_lt}
 use Rattle.std.specs.Int.{w16, from_be_bytes, cast_signed}
 

@@ -1,5 +1,7 @@
 //! The requests that a ground system sends to an aircraft under ADS-C, and the payload octets that
-//! carry them, after RTCA DO-258A / EUROCAE ED-100A in this project's profile.
+//! carry them, after RTCA DO-258A / EUROCAE ED-100A in this project's profile: the messages, the
+//! groups and their tags are those of the standards; the octets of a group's data, the limit of four
+//! messages and the numbers of the reasons are this project's own.
 //!
 //! An uplink is one to four messages: cancels, periodic and emergency periodic requests, event
 //! requests. [`decode_uplink`] reads a payload as the one uplink that it encodes, or answers its

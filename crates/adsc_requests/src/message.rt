@@ -7,7 +7,8 @@ ghost use Rattle.adsc_requests.specs.Watching.{is_watching, is_not_zero};
 
 use arrayvec::ArrayVec;
 
-/// The aircraft intent that a periodic request asks for (group 21 of DO-258A's contract requests).
+/// The aircraft intent that a periodic request asks for: group 21 of RTCA DO-258A / EUROCAE ED-100A,
+/// its two octets in this project's profile.
 #[derive(Clone, Copy, Debug, PartialEq, Eq)]
 pub struct Intent {
     /// In every how many reports the intent stands; 0 means never.

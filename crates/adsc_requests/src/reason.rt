@@ -1,5 +1,6 @@
-//! The reasons of refusals, as a negative acknowledgement carries them (RTCA DO-258A / EUROCAE
-//! ED-100A).
+//! The reasons of refusals, as a negative acknowledgement carries them. That an uplink is refused
+//! with a reason follows RTCA DO-258A / EUROCAE ED-100A; the numbers of the reasons and what each
+//! says are this project's profile.
 
 /// Duplicate group tag.
 pub const DUPLICATE_GROUP: u8 = 1;

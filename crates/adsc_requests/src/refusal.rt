@@ -1,7 +1,7 @@
 //! Why a payload is refused.
 
 /// The first fault of a payload, judged from the left: what a negative acknowledgement tells the
-/// ground (RTCA DO-258A / EUROCAE ED-100A, in this project's profile).
+/// ground. Which fault is the first, its reason and its place are this project's profile.
 #[derive(Clone, Copy, Debug, PartialEq, Eq)]
 pub struct Refusal {
     /// The first bit of the faulty octet or field, counted from 0 at the payload's first octet.

@@ -213,6 +213,7 @@ impl Flight {
     }
 
     /// Enters this entry.
+    #[inline(always)]
     fn enter(&mut self, entry: Entry) -> Result<Option<End>, NoMemory>
         requires { IsTakenBy self.old.craft.setting entry }
         ensures { IfOk result (Did (enters self.old.craft.setting entry) self.old self.new) }

@@ -45,6 +45,7 @@ pub enum Reading {
 /// EUROCAE ED-100A.
 ///
 /// `samples` reads the columns of sample lines; one serves all lines of a run.
+#[inline(always)]
 pub fn read_line(
     samples: &mut SampleReader,
     alloc: Global,
@@ -67,6 +68,7 @@ pub fn read_line(
 }
 
 /// What a line says that isn't too long and stands where it may, or the first fault of its form.
+#[inline(always)]
 fn read_placed(samples: &mut SampleReader, alloc: Global, line: &[u8]) -> Result<Reading, NoMemory>
     requires size { length line.now ≤ max_line_bytes }
     requires unbroken { IsUnbroken line.now }

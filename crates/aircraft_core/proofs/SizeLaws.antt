@@ -5,18 +5,18 @@ use Rattle.bit_terms.specs.Signed.{signed_bits}
 use Rattle.bit_terms.proofs.BitsLaws.{length-unsigned_bits}
 use Rattle.bit_terms.proofs.SignedLaws.{length-signed_bits}
 use Rattle.bit_terms.proofs.OctetsLaws.{length-octets_bits}
-use Rattle.adsc_groups.specs.Basic.{basic_bits, basic_fields, basic_values}
+use Rattle.adsc_groups.specs.Basic.{basic_bits}
 use Rattle.adsc_groups.specs.Fields.{Field, fields_bits, size_of}
 use Rattle.adsc_groups.specs.Fields.Field.{number, signed, padding}
 use Rattle.adsc_groups.specs.Groups.{GroupData, group_bits, group_fields}
 use Rattle.adsc_downlink.specs.Items.{ItemData, tagged_group_bits, report_bits, item_bits, downlink_bits}
 use Rattle.adsc_downlink.specs.Items.ItemData.{ack, nack, noncompliance, emergency_off, report}
 use Rattle.adsc_downlink.proofs.Sizes.{length-nack}
-use Rattle.contract_rules.specs.Due.{Item, Acknowledgement, NegativeAcknowledgement, Noncompliance, EmergencyOff, Report}
+use Rattle.contract_rules.specs.Due.{Item}
 use Rattle.contract_rules.specs.Reasons.{names_octet}
 use Rattle.flight_samples.specs.declared.sample.Sample.{Sample}
-use Rattle.aircraft_core.specs.Reports.{basic_data_of, group_on, groups_from, item_on}
-use Rattle.aircraft_core.specs.Sending.{HasSixFlags, item_bits_on, most_bits}
+use Rattle.aircraft_core.specs.Reports.{group_on, groups_from, item_on}
+use Rattle.aircraft_core.specs.Sending.{item_bits_on}
 use Rattle.aircraft_core.specs.Setting.{Setting}
 
 -- ---- groups
@@ -54,7 +54,7 @@ length-next_group setting sample tag true flags =
 length-next_group setting sample tag false flags = omega arith
 
 -- All six groups have 46 octets with their tags.
-length-groups : (setting : Setting) (sample : Sample) (flags : List Bool) → length flags ≡ 6
+pub length-groups : (setting : Setting) (sample : Sample) (flags : List Bool) → length flags ≡ 6
     → length (flat_map tagged_group_bits (groups_from setting sample 12 flags)) ≤ 368
 length-groups setting sample (a ∷ b ∷ c ∷ d ∷ e ∷ f ∷ []) six =
     omega (
@@ -70,28 +70,25 @@ length-groups setting sample _ six = absurd (omega arith)
 
 -- ---- items
 
--- An item has at most the bits that are counted for it: a report with all six groups has 57 octets.
-pub item_fits : (setting : Setting) (sample : Sample) (item : Item) → HasSixFlags item → length (item_bits (item_on setting sample item)) ≤ most_bits item
-unfolding item_bits report_bits basic_bits
-item_fits setting sample (Acknowledgement n) six = omega (arith, length-octets_bits (3 ∷ n ∷ []))
-item_fits setting sample (NegativeAcknowledgement n reason octet) six = omega (arith, length-nack n reason octet, size (names_octet reason))
+-- An item that is no report has at most five octets.
+pub ack_fits : (n : ℕ) → length (item_bits (ack n)) ≤ 40
+unfolding item_bits
+ack_fits n = omega (arith, length-octets_bits (3 ∷ n ∷ []))
+
+pub nack_fits : (n reason octet : ℕ) → length (item_bits (nack n reason octet)) ≤ 40
+nack_fits n reason octet = omega (arith, length-nack n reason octet, size (names_octet reason))
   where
     size : (named : Bool) → 8 * cond named 4 3 ≤ 32
     size true = omega arith
     size false = omega arith
-item_fits setting sample (Noncompliance n) six = omega (arith, length-octets_bits (5 ∷ n ∷ 1 ∷ 21 ∷ 64 ∷ []))
-item_fits setting sample (EmergencyOff n) six = omega (arith, length-octets_bits (6 ∷ n ∷ []))
-item_fits setting sample (Report tag flags) six =
-    let groups = flat_map tagged_group_bits (groups_from setting sample 12 flags) in
-    let basic = fields_bits basic_fields (basic_values (basic_data_of sample)) in
-    omega (
-      arith,
-      length-append (unsigned_bits 8 tag) (basic ++ groups),
-      length-append basic groups,
-      length-unsigned_bits 8 tag,
-      length-fields basic_fields (basic_values (basic_data_of sample)),
-      length-groups setting sample flags six,
-    )
+
+pub noncompliance_fits : (n : ℕ) → length (item_bits (noncompliance n)) ≤ 40
+unfolding item_bits
+noncompliance_fits n = omega (arith, length-octets_bits (5 ∷ n ∷ 1 ∷ 21 ∷ 64 ∷ []))
+
+pub emergency_off_fits : (n : ℕ) → length (item_bits (emergency_off n)) ≤ 40
+unfolding item_bits
+emergency_off_fits n = omega (arith, length-octets_bits (6 ∷ n ∷ []))
 
 -- An item has a bit.
 some_bit : (item : ItemData) → 1 ≤ length (item_bits item)

@@ -1,15 +1,14 @@
 -- Items written one behind the other.
-use Rattle.std.proofs.Common.{◌≡◌, ℕ, ◌+◌, ◌%◌, ◌<◌, ◌≤◌, Bool, List, [], ◌∷◌, ◌++◌, length, get_or, drop, append-nil, append_assoc, length-append, refl, ap, sym, ◌∙◌, subst, arith}
+use Rattle.std.proofs.Common.{◌≡◌, ℕ, ◌+◌, ◌<◌, ◌≤◌, Bool, List, [], ◌∷◌, ◌++◌, length, get_or, drop, append-nil, append_assoc, refl, ap, sym, ◌∙◌, subst, arith}
 use Rattle.std.proofs.lemmas.List.{drop_more, drop_all}
-use Rattle.adsc_downlink.specs.Items.{ItemData, item_bits, downlink_bits}
-use Rattle.contract_rules.specs.Due.{Item}
+use Rattle.adsc_downlink.specs.Items.{report_bits, item_bits, downlink_bits}
+use Rattle.contract_rules.specs.Due.{Item, Report}
 use Rattle.contract_table.specs.declared.due.Due.{Due}
 use Rattle.contract_table.specs.Dues.{rules_item}
 use Rattle.flight_samples.specs.declared.sample.Sample.{Sample}
-use Rattle.aircraft_core.specs.Reports.{item_on}
-use Rattle.aircraft_core.specs.Sending.{AreSendable, HasSixFlags, IsSendable, items_in, item_bits_on, most_bits, most_bits_of}
+use Rattle.aircraft_core.specs.Reports.{basic_data_of, groups_from, item_on}
+use Rattle.aircraft_core.specs.Sending.{AreSendable, IsSendable, items_in, item_bits_on, most_bits, most_bits_of}
 use Rattle.aircraft_core.specs.Setting.{Setting}
-use Rattle.aircraft_core.proofs.SizeLaws.{item_fits}
 
 -- The bits of items are those of the front and those behind.
 pub item_bits_on-append : (setting : Setting) (sample : Sample) (front back : List Item)
@@ -29,6 +28,12 @@ item_bits_on-cons setting sample item items = refl
 pub no_bits : (setting : Setting) (sample : Sample) → item_bits_on setting sample [] ≡ []
 unfolding downlink_bits
 no_bits setting sample = refl
+
+-- A report that is due, as an item.
+pub report_is_item : (setting : Setting) (sample : Sample) (tag : ℕ) (flags : List Bool)
+    → report_bits (record { tag = tag; basic = basic_data_of sample; groups = groups_from setting sample 12 flags }) ≡ item_bits (item_on setting sample (Report tag flags))
+unfolding item_bits
+report_is_item setting sample tag flags = refl
 
 -- What is written of dues up to a place, with what is left of them: all bits, few enough, in whole octets; and what is left can be sent.
 pub record IsWrittenTo (setting : Setting) (sample : Sample) (dues : List Due) (place : ℕ) (out now_out : List Bool) : Type 0 where
@@ -51,23 +56,20 @@ module _ (setting : Setting) (sample : Sample) (dues : List Due) (place : ℕ) (
   next_few : length now_out + (most_bits (rules_item (get_or dues place default).item) + most_bits_of (items_in (drop (place + 1) dues))) ≤ length out + most_bits_of (items_in dues)
   next_few = omega (arith, before.few, ap most_bits_of next)
 
-  pub next_fits : (item : ItemData) → item ≡ item_on setting sample (rules_item (get_or dues place default).item) → HasSixFlags (rules_item (get_or dues place default).item)
-      → length out + most_bits_of (items_in dues) ≤ 2040 → length now_out + length (item_bits item) ≤ 2040
-  next_fits item same six room =
-      omega (arith, next_few, item_fits setting sample (rules_item (get_or dues place default).item) six, ap (λ i. length (item_bits i)) same)
+  pub next_fits : length out + most_bits_of (items_in dues) ≤ 2040 → length now_out + most_bits (rules_item (get_or dues place default).item) ≤ 2040
+  next_fits room = omega (arith, next_few)
 
-  pub written_more : (item : ItemData) (later_out : List Bool) → item ≡ item_on setting sample (rules_item (get_or dues place default).item) → HasSixFlags (rules_item (get_or dues place default).item)
-      → later_out ≡ now_out ++ item_bits item → IsWrittenTo setting sample dues (place + 1) out later_out
-  written_more item later_out same six bits =
+  pub written_more : (later_out : List Bool) → later_out ≡ now_out ++ item_bits (item_on setting sample (rules_item (get_or dues place default).item))
+      → length later_out ≤ length now_out + most_bits (rules_item (get_or dues place default).item) → IsWrittenTo setting sample dues (place + 1) out later_out
+  written_more later_out written small =
       let here = item_bits (item_on setting sample (rules_item (get_or dues place default).item)) in
-      let written : later_out ≡ now_out ++ here = bits ∙ ap (λ i. now_out ++ item_bits i) same in
       record {
         whole = ap (λ o. o ++ item_bits_on setting sample (items_in (drop (place + 1) dues))) written
             ∙ append_assoc now_out here (item_bits_on setting sample (items_in (drop (place + 1) dues)))
             ∙ ap (λ bits. now_out ++ bits) (sym (item_bits_on-cons setting sample (rules_item (get_or dues place default).item) (items_in (drop (place + 1) dues)))
             ∙ sym (ap (item_bits_on setting sample) next))
             ∙ before.whole;
-        few = omega (arith, next_few, item_fits setting sample (rules_item (get_or dues place default).item) six, ap length written, length-append now_out here);
+        few = omega (arith, next_few, small);
         left = (subst AreSendable next before.left).1;
       }
 
@@ -80,10 +82,3 @@ all_written setting sample dues place out now_out end written =
       sym (append-nil now_out) ∙ sym (ap (λ bits. now_out ++ bits) (ap (item_bits_on setting sample) none ∙ no_bits setting sample)) ∙ written.whole,
       omega (arith, written.few),
     )
-
--- Whole octets behind whole octets.
-pub whole_more : (out now_out here : List Bool) → now_out ≡ out ++ here → length out % 8 ≡ 0 → length here % 8 ≡ 0 → length now_out % 8 ≡ 0
-whole_more out now_out here same one other = ap (λ bits. length bits % 8) same ∙ ap (λ n. n % 8) (length-append out here) ∙ sum (length out) (length here) one other
-  where
-    sum : (a b : ℕ) → a % 8 ≡ 0 → b % 8 ≡ 0 → (a + b) % 8 ≡ 0
-    sum a b one other = omega arith

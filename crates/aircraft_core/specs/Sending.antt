@@ -1,5 +1,5 @@
 -- Which items an aircraft can send, the bits that it sends them as, and how many these are at most. It serves private contracts.
-use Rattle.std.specs.Prelude.{◌≡◌, ℕ, ◌+◌, ◌≤◌, ◌==◌, Bool, cond, List, [], ◌∷◌, length, map, IsTrue}
+use Rattle.std.specs.Prelude.{ℕ, ◌+◌, ◌≤◌, ◌==◌, Bool, cond, List, [], ◌∷◌, map, IsTrue}
 use Rattle.std.specs.List.{AllByRecursion}
 use Rattle.adsc_downlink.specs.Codes.{is_reason, is_place_of, is_report_tag}
 use Rattle.adsc_downlink.specs.Items.{downlink_bits}
@@ -50,11 +50,6 @@ most_bits_of (item ∷ items) = most_bits item + most_bits_of items
 -- How many bits one payload has at most.
 abbrev pub payload_bits : ℕ
 payload_bits = 2040
-
--- A report says of each of six groups whether it has it.
-abbrev pub HasSixFlags : Item → Type 0
-HasSixFlags (Report tag flags) = length flags ≡ 6
-HasSixFlags item = Unit {0}
 
 -- The links of dues never fall, and the first is not below this one.
 abbrev pub RisesFrom : ℕ → List (ℕ × Item) → Type 0

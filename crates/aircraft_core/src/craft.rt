@@ -120,6 +120,7 @@ impl Craft {
     /// Room is kept for it, its link is one of the aircraft's, its payload has 1 to 255 octets, its
     /// code is at most 9, and its moment is at most 999,999,999 s. It takes no memory and can't be
     /// refused, and it costs the same however long the journal is.
+    #[inline(always)]
     pub fn apply(&mut self, entry: Entry)
         requires room { 0 < self.old.spare }
         requires taken { IsTakenBy self.old.setting entry }

@@ -7,11 +7,10 @@ ghost use Rattle.flight_samples.specs.declared.sample.Sample.{Sample as FlightSa
 ghost use Rattle.aircraft_core.specs.Downlinks.{texts_of_items};
 ghost use Rattle.aircraft_core.specs.Sending.{AreSendable, items_in, item_bits_on, most_bits_of, payload_bits};
 
-use crate::items::item;
+use crate::items::write_item;
 use crate::outbox::Outbox;
 use crate::setup::Setup;
 use adsc_bits::BitWriter;
-use adsc_downlink::encode_item;
 use contract_table::Due;
 use flight_samples::Sample;
 
@@ -26,12 +25,13 @@ pub(crate) fn write_items(out: &mut BitWriter, setup: &Setup, sample: &Sample, d
     ensures whole { length out.new % 8 ≡ 0 }
 {
     for due in dues {
-        encode_item(&item(setup, sample, &due.item), out);
+        write_item(out, setup, sample, &due.item);
     }
 }
 
 /// Sends the items that were written on a link, in one text, and nothing where there are none.
 /// There is room for it.
+#[inline(always)]
 pub(crate) fn send(outbox: &mut Outbox, setup: &Setup, link: usize, out: BitWriter)
     requires link { link < length setup.now.addresses }
     requires whole { length out % 8 ≡ 0 }

@@ -81,18 +81,18 @@ impl Table {
         ensures stands { (acts : List RulesAct)
             → StandsFor self.old acts → StandsFor self.new (rules_act act.now ∷ acts) }
     {
-        let later = later_of(self.time, act);
-        let dues = take(
+        let (time, crew) = (self.time, self.crew);
+        let later = later_of(time, act);
+        self.time = later;
+        self.crew = crew_after(crew, act);
+        take(
             &mut self.connections,
             &self.configuration,
-            self.crew,
-            self.time,
+            crew,
+            time,
             later,
             act,
-        );
-        self.time = later;
-        self.crew = crew_after(self.crew, act);
-        dues
+        )
     }
 
     /// The time in seconds: the greatest tick so far, or 0.

@@ -71,6 +71,12 @@ kept values in_ranges place within =
     let at = in_ranges place within in
     to_z-of_z w32 _ (fits_between (get_or values place (pos 0)) (omega (arith, ints, fit.0, at.0)) (omega (arith, ints, fit.1, at.1)))
 
+-- So is a single value of a column.
+pub kept_value : (z : ℤ) (place : ℕ) → place < column_count → IsIn (range_at place) z → to_z w32 (of_z w32 z) ≡ z
+kept_value z place within at =
+    let fit = ranges_fit place within in
+    to_z-of_z w32 z (fits_between z (omega (arith, ints, fit.0, at.0)) (omega (arith, ints, fit.1, at.1)))
+
 -- It fits a word of 64 bits too.
 pub in_word : (values : List ℤ) → InRanges values → (place : ℕ) → place < column_count → SFits w64 (get_or values place (pos 0))
 in_word values in_ranges place within =

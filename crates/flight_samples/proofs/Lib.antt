@@ -1,6 +1,7 @@
 pub mod DecimalLemmas
 pub mod RowLemmas
 pub mod SplitLemmas
+pub mod SightLemmas
 pub mod ColumnLemmas
 pub mod Readings
 pub mod DecimalTexts

@@ -1,6 +1,6 @@
 -- The columns of a sample: the name of each, and the least and the greatest value that may stand in it.
--- The quantities and their resolutions are those of the ADS-C report groups (RTCA DO-258A / EUROCAE ED-100A, ARINC 745).
--- Which columns there are, and in which order, is this project's profile.
+-- The quantities are those that the ADS-C report groups tell (RTCA DO-258A / EUROCAE ED-100A, ARINC 745).
+-- Which columns there are, their order, their units and their ranges are this project's profile.
 use Rattle.std.specs.Prelude.{ℕ, ℤ, pos, negsuc, List, [], ◌∷◌, ◌≤ℤ◌, codes}
 
 -- The least and the greatest value of a quantity.

@@ -11,7 +11,8 @@
 //!
 //! Begin with `src/sample.rt` (the sample), then `specs/Columns.antt` (the columns and their ranges), `specs/Decimals.antt`
 //! (the text of a number), `specs/SampleText.antt` (the text of a sample and its faults), `src/read.rt`, and `src/laws.rt`: a
-//! sample and a number have one text.
+//! sample and a number have one text. A right line is read in one pass (`src/sight.rt`); any other is read again, column by
+//! column (`src/row.rt`), to find what is wrong with it.
 #![tactic(auto)]
 
 mod columns;
@@ -21,6 +22,7 @@ mod laws;
 mod read;
 mod row;
 pub mod sample;
+mod sight;
 mod splitter;
 
 pub use decimal::NumberFault as ColumnWhy;

@@ -79,6 +79,26 @@ impl SampleReader {
         ensures told { (e : SampleRefusal) → IsSampleFault (columns_of columns.now) e
             → (result ≡ Err e) ⊎ (result ≡ Err SampleRefusal.NoMemory) }
     {
+        if let Some(sample) = self.splitter.sample(columns) {
+            return Ok(sample);
+        }
+        self.read_by_column(columns)
+    }
+
+    /// Reads the columns of a sample line one by one, and names the first bad one.
+    #[inline(never)]
+    fn read_by_column(&mut self, columns: &[u8]) -> Result<Sample, SampleRefusal>
+        requires size { length columns.now ≤ LONGEST_COLUMNS }
+        requires plain { All IsPlain columns.now }
+
+        ensures ok { IfOk result (λ s. IsSampleText s columns.now) }
+        ensures refused { IfErr result (λ e. e ≢ SampleRefusal.NoMemory
+            → IsSampleFault (columns_of columns.now) e) }
+        ensures read { (values : List ℤ) → AreSampleValues (columns_of columns.now) values
+            → MatchResult result (λ s. values_of s ≡ values) (λ e. e ≡ SampleRefusal.NoMemory) }
+        ensures told { (e : SampleRefusal) → IsSampleFault (columns_of columns.now) e
+            → (result ≡ Err e) ⊎ (result ≡ Err SampleRefusal.NoMemory) }
+    {
         match self.splitter.split(columns) {
             Ok(row) => sample_of_row(row),
             Err(AllocError) => Err(SampleRefusal::NoMemory),

@@ -52,7 +52,7 @@ fn read_values(row: &ByteRecord) -> Result<[i32; COLUMN_COUNT], SampleRefusal>
 }
 
 /// The sample of these values.
-fn sample_of(values: [i32; COLUMN_COUNT]) -> Sample
+pub(crate) fn sample_of(values: [i32; COLUMN_COUNT]) -> Sample
     requires count { length values ≡ column_count }
     requires ranges { (place : ℕ) → place < column_count
         → IsIn (range_at place) (slice_index_or values place (pos 0)) }

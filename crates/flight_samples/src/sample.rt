@@ -5,9 +5,9 @@ ghost use Rattle.flight_samples.specs.Columns.{IsIn, accuracies, altitudes, angl
 
 /// A sample: what the avionics know at one moment, as the aircraft reports it in the groups of ADS-C.
 ///
-/// The fields stand in the order of the columns of a sample line. Each is within its column's range, always. Units and
-/// resolutions are those of RTCA DO-258A / EUROCAE ED-100A and ARINC 745; the set of the columns and its order are this
-/// project's profile. The latitude goes up to the north pole, 524288, and the longitude stops one step short of 180 degrees
+/// The fields stand in the order of the columns of a sample line. Each is within its column's range, always. The quantities
+/// are those that the report groups of RTCA DO-258A / EUROCAE ED-100A and ARINC 745 tell; which columns there are, their
+/// order, their units and their ranges are this project's profile. The latitude goes up to the north pole, 524288, and the longitude stops one step short of 180 degrees
 /// east, which is the same meridian as 180 degrees west.
 #[derive(Clone, Copy, Debug, PartialEq, Eq)]
 pub struct Sample {

@@ -5,10 +5,12 @@ ghost use Rattle.csv.specs.Machine.{next_record};
 ghost use Rattle.csv.specs.Reading.{default_config, strip_bom};
 ghost use Rattle.csv.specs.Records.{fields_of};
 ghost use Rattle.csv.specs.declared.parser.State.TheVariants as st;
-ghost use Rattle.flight_samples.specs.SampleText.{HasNoComma, IsPlain, columns_of};
+ghost use Rattle.flight_samples.specs.SampleText.{HasNoComma, IsPlain, IsSampleText, columns_of};
 
 use crate::feed::Feed;
 use crate::row::field_at;
+use crate::sample::Sample;
+use crate::sight::sample_seen;
 use csv::{ByteRecord, Error, Reader, ReaderBuilder};
 use std::alloc::{AllocError, Global};
 
@@ -32,6 +34,16 @@ impl Splitter {
             reader: feed_reader(alloc),
             row: ByteRecord::new(alloc),
         }
+    }
+
+    /// The sample of the text, where the kept reader gives a row that is seen to have its columns in one pass.
+    pub(crate) fn sample(&mut self, text: &[u8]) -> Option<Sample>
+        ensures { IfSome result (λ sample. IsSampleText sample text.now) }
+    {
+        if !self.read_kept(text) {
+            return None;
+        }
+        sample_seen(&self.row, text)
     }
 
     /// The columns of the text.

@@ -1,21 +1,32 @@
 //! The fields of a line: the pieces between its commas.
 
 ghost use Rattle.std.specs.Prelude.{◌≡◌, ◌≢◌, ℕ, ◌+◌, ◌<◌, ◌≤◌, ◌∷◌, ◌++◌, length, slice_index, count_by, ◌==◌, IfSome, IfNone};
+ghost use Rattle.adsc_io.specs.Limits.{max_line_bytes};
 ghost use Rattle.net_script.specs.Fields.{comma, field_at, fields_of};
 
 /// How many commas the line has: one less than it has fields.
 pub(crate) fn comma_count(line: &[u8]) -> usize
+    requires { length line.now ≤ max_line_bytes }
     ensures fields { length (fields_of line.now) ≡ result + 1 }
     ensures within { result ≤ length line.now }
 {
-    count_commas(line)
+    usize::from(count_commas(line))
 }
 
-fn count_commas(line: &[u8]) -> usize
+/// How many bytes of the line are commas, counted in one loop. The count is a small number, so that many bytes are looked at in
+/// one step.
+fn count_commas(line: &[u8]) -> u16
+    requires { length line.now ≤ max_line_bytes }
     ensures commas { result ≡ count_by (λ byte. byte == comma) line.now }
     ensures within { result ≤ length line.now }
 {
-    line.iter().filter(|byte| **byte == b',').count()
+    let mut count = 0u16;
+    for byte in line {
+        if *byte == b',' {
+            count += 1;
+        }
+    }
+    count
 }
 
 /// The field at the place, counted from 0; it is empty where the line has none there.

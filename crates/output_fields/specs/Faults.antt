@@ -1,5 +1,5 @@
--- What is wrong with a text, as fields of an output line. Envelopes are those of ARINC 622, payloads and reasons those of
--- RTCA DO-258A / EUROCAE ED-100A; the codes are this project's profile.
+-- What is wrong with a text, as fields of an output line. Envelopes are those of ARINC 622, payloads those of
+-- RTCA DO-258A / EUROCAE ED-100A; reasons and codes are this project's profile.
 use Rattle.std.specs.Prelude.{ℕ, List, ◌∷◌, ◌++◌, codes, decimal}
 use Rattle.acars_envelope.specs.Texts.{four_digits}
 use Rattle.acars_envelope.specs.declared.refusal.EnvelopeRefusal.{EnvelopeRefusal}

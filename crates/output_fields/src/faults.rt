@@ -1,5 +1,5 @@
 //! What is wrong with a text.
-ghost use Rattle.std.specs.Prelude.{◌≡◌, ◌++◌, OnOk};
+ghost use Rattle.std.specs.Prelude.{◌≡◌, ◌≤◌, ◌++◌, OnOk, length};
 ghost use Rattle.output_fields.specs.Faults.{envelope_code, envelope_fields, envelope_fault_fields, request_fault_fields};
 ghost use Rattle.output_fields.specs.Room.{NeedsRoom};
 
@@ -16,12 +16,12 @@ pub fn append_envelope_fault(out: &mut Vec<u8>, fault: &EnvelopeRefusal) -> Resu
     ensures text { OnOk result (out.new.items ≡ out.old.items ++ envelope_fault_fields fault.now) }
     ensures room { NeedsRoom 30 out.old out.new result }
 {
-    append_envelope_code(out, fault.why)?;
+    out.extend_from_slice(envelope_word(fault.why))?;
     append_envelope_fields(out, fault.place, fault.why)
 }
 
 /// Appends the first fault of an uplink's payload: `REASON-` and its reason, a comma, and its first bit in decimal. The
-/// reasons are those of RTCA DO-258A / EUROCAE ED-100A; the form of the code is this project's profile.
+/// payloads follow RTCA DO-258A / EUROCAE ED-100A; reasons and the form of the code are this project's profile.
 pub fn append_request_fault(out: &mut Vec<u8>, refusal: &Refusal) -> Result<(), AllocError>
     ensures text { OnOk result (out.new.items ≡ out.old.items ++ request_fault_fields refusal.now) }
     ensures room { NeedsRoom 28 out.old out.new result }
@@ -31,22 +31,22 @@ pub fn append_request_fault(out: &mut Vec<u8>, refusal: &Refusal) -> Result<(), 
     append_number(out, refusal.bit)
 }
 
-/// Appends the code of an envelope's fault.
-fn append_envelope_code(out: &mut Vec<u8>, why: EnvelopeWhy) -> Result<(), AllocError>
-    ensures text { OnOk result (out.new.items ≡ out.old.items ++ envelope_code why) }
-    ensures room { NeedsRoom 12 out.old out.new result }
+/// The code of an envelope's fault, of at most 12 letters.
+pub(crate) fn envelope_word(why: EnvelopeWhy) -> &'static [u8]
+    ensures code { result.now ≡ envelope_code why }
+    ensures short { length result.now ≤ 12 }
 {
     match why {
-        EnvelopeWhy::Slash => out.extend_from_slice(b"SLASH"),
-        EnvelopeWhy::Address => out.extend_from_slice(b"ADDRESS"),
-        EnvelopeWhy::Dot => out.extend_from_slice(b"DOT"),
-        EnvelopeWhy::Imi => out.extend_from_slice(b"IMI"),
-        EnvelopeWhy::Registration => out.extend_from_slice(b"REGISTRATION"),
-        EnvelopeWhy::Hex => out.extend_from_slice(b"HEX"),
-        EnvelopeWhy::Character => out.extend_from_slice(b"CHARACTER"),
-        EnvelopeWhy::TooShort => out.extend_from_slice(b"SHORT"),
-        EnvelopeWhy::TooLong => out.extend_from_slice(b"LONG"),
-        EnvelopeWhy::Check { .. } => out.extend_from_slice(b"CHECK"),
+        EnvelopeWhy::Slash => b"SLASH",
+        EnvelopeWhy::Address => b"ADDRESS",
+        EnvelopeWhy::Dot => b"DOT",
+        EnvelopeWhy::Imi => b"IMI",
+        EnvelopeWhy::Registration => b"REGISTRATION",
+        EnvelopeWhy::Hex => b"HEX",
+        EnvelopeWhy::Character => b"CHARACTER",
+        EnvelopeWhy::TooShort => b"SHORT",
+        EnvelopeWhy::TooLong => b"LONG",
+        EnvelopeWhy::Check { .. } => b"CHECK",
     }
 }
 

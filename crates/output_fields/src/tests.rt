@@ -26,3 +26,19 @@ fn fields(rt: HostRuntime) -> Result<(), Fail> {
     );
     Ok(())
 }
+
+#[test]
+fn fields_of_a_line(rt: HostRuntime) -> Result<(), Fail> {
+    let mut line = Line::new();
+    push_number(&mut line, u32::MAX);
+    push_octets(&mut line, &[0xC8, 0x12, 0x34]);
+    let wrong_check = unseal(b"/AKLCDYA.ADS.N123450701BD4E").expect_err(&rt, "a wrong check");
+    let repeated = decode_uplink(&[7, 1, 11, 165, 11, 165]).expect_err(&rt, "a repeated group");
+    push_envelope_fault(&mut line, &wrong_check);
+    push_request_fault(&mut line, &repeated);
+    assert_eq!(rt;
+        line.as_slice(),
+        b",4294967295C81234CHECK,BD4E,BD4FREASON-2,32".as_slice()
+    );
+    Ok(())
+}

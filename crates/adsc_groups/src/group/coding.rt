@@ -52,7 +52,7 @@ pub fn group_octets(group: &Group) -> u8
 
 /// Writes the data of a group without its tag, with the padding zero. There is room for it.
 ///
-/// Source: RTCA DO-258A / EUROCAE ED-100A; zeros as padding are this project's profile.
+/// The layout of groups is this project's profile, and so are zeros as padding.
 pub fn encode_group(group: &Group, out: &mut BitWriter)
     requires { length out.old + group_size group.now ≤ 2040 }
     ensures bits { out.new ≡ out.old ++ group_bits (group_data group.now) }
@@ -85,7 +85,7 @@ fn encode_kind(group: &Group, out: &mut BitWriter)
 /// The group whose data stands next, behind this tag, whatever its padding. The reader then stands
 /// just past it.
 ///
-/// Source: RTCA DO-258A / EUROCAE ED-100A.
+/// The layout of groups is this project's profile.
 ///
 /// # Errors
 ///

@@ -1,0 +1,15 @@
+pub mod DrawnLimits
+pub mod HasSummary
+pub mod HeadLines
+pub mod JournalCounts
+pub mod LineFields
+pub mod LinesDrawn
+pub mod MadeLines
+pub mod MadeRuns
+pub mod MadeScripts
+pub mod OneSummary
+pub mod ReadLines
+pub mod ReadPayloads
+pub mod ReadUplinks
+pub mod SummaryLaws
+pub mod TextBytes

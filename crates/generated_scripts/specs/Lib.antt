@@ -1,0 +1,11 @@
+pub mod Draws
+pub mod Payloads
+pub mod Texts
+pub mod Generator
+pub mod Making
+pub mod Writing
+pub mod Laws
+pub mod Limits
+pub mod Heads
+pub mod Summaries
+pub mod Worked

@@ -1,0 +1,11 @@
+pub mod Beginnings
+pub mod Logs
+pub mod Mixing
+pub mod Views
+pub mod Words
+pub mod TurnSteps
+pub mod SeatSteps
+pub mod Ends
+pub mod Allowed
+pub mod Gathering
+pub mod Passing

@@ -1,0 +1,4 @@
+pub mod Interleavings
+pub mod Passes
+pub mod Seats
+pub mod Turns

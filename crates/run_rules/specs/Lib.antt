@@ -1,0 +1,16 @@
+pub mod Among
+pub mod Happenings
+pub mod Stages
+pub mod Texts
+pub mod Lines
+pub mod Orders
+pub mod Places
+pub mod Readings
+pub mod Runs
+pub mod Output
+pub mod Claims
+pub mod Deeds
+pub mod Laws
+pub mod EarlierLines
+pub mod SentTexts
+pub mod Histories
