@@ -1,7 +1,8 @@
 pub mod BenchLaws
 pub mod ListLemmas
-pub mod OneOutput
+pub mod MakingLaws
 pub mod OneShownText
 pub mod OptionLemmas
 pub mod RunningLaws
 pub mod ShowingLaws
+pub mod WordsLaws

@@ -13,3 +13,12 @@ pub one_item : {X : Type 0} (xs : List X) (a : X) → 1 ≤ length xs → length
 one_item [] a least most first = absurd (omega arith)
 one_item (x ∷ []) a least most first = cc
 one_item (x ∷ y ∷ xs) a least most first = absurd (omega arith)
+
+-- a list of three is its three items
+pub three_items : {X : Type 0} (xs : List X) (a b c : X) → 3 ≤ length xs → length xs < 4 → a ≡ get_or xs 0 a → b ≡ get_or xs 1 b → c ≡ get_or xs 2 c
+    → xs ≡ a ∷ b ∷ c ∷ []
+three_items [] a b c least most first second third = absurd (omega arith)
+three_items (x ∷ []) a b c least most first second third = absurd (omega arith)
+three_items (x ∷ y ∷ []) a b c least most first second third = absurd (omega arith)
+three_items (x ∷ y ∷ z ∷ []) a b c least most first second third = cc
+three_items (x ∷ y ∷ z ∷ w ∷ xs) a b c least most first second third = absurd (omega arith)

@@ -24,7 +24,7 @@ use Rattle.adsc_bench.specs.Progress.{HasReadAll, HasReadLine, HasShown, IsLineS
 use Rattle.adsc_bench.specs.Seen.{Seen, seen}
 use Rattle.adsc_bench.specs.Showing.{IsShownSoFar, IsDueStatus, Promises, Shows}
 use Rattle.adsc_bench.specs.declared.status.Status.{Status}
-use Rattle.adsc_bench.specs.declared.status.Status.TheVariants.{Done, Refused, Words, ReadFault, WriteFault, BadLine, NoMemory, Limit, NotBuilt}
+use Rattle.adsc_bench.specs.declared.status.Status.TheVariants.{Done, Refused, Words, ReadFault, WriteFault, BadLine, NoMemory, Limit}
 use Rattle.adsc_bench.proofs.BenchLaws.{told-whole}
 
 -- ---- what a source told
@@ -434,4 +434,3 @@ shows_anyway before after untouched status shows = record { promised = at status
     at BadLine promised = promised
     at NoMemory promised = absurd promised
     at Limit promised = promised
-    at NotBuilt promised = absurd promised

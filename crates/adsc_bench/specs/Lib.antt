@@ -1,3 +1,4 @@
+pub mod Making
 pub mod Progress
 pub mod Running
 pub mod Seen

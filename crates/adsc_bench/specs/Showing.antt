@@ -9,7 +9,7 @@ use Rattle.shown_lines.specs.Meanings.{HasRefused}
 use Rattle.shown_lines.specs.Shown.{AreShown, IsShownWhole, IsShownCut, IsShownFront}
 use Rattle.adsc_bench.specs.Seen.{Seen, Faultless, WereRead}
 use Rattle.adsc_bench.specs.declared.status.Status.{Status}
-use Rattle.adsc_bench.specs.declared.status.Status.TheVariants.{Done, Refused, Words, ReadFault, WriteFault, BadLine, NoMemory, Limit, NotBuilt}
+use Rattle.adsc_bench.specs.declared.status.Status.TheVariants.{Done, Refused, Words, ReadFault, WriteFault, BadLine, NoMemory, Limit}
 
 -- The text is the shown text of these bytes: within the limit with the line that ends it, and over the limit without.
 abbrev pub IsShownText : List ℕ → List ℕ → Type 0
@@ -44,8 +44,6 @@ Promises before after untouched NoMemory = untouched
 -- Limit: no fault came, the limit is met, and the shown text of the lines before was written.
 Promises before after untouched Limit = Faultless before after
     × IfSome before.left (λ bytes. (text : List ℕ) × IsShownCut bytes text × Appends before.written after.written text)
--- NotBuilt: never.
-Promises before after untouched NotBuilt = ⊥
 
 -- The status is the one that the lines of the input say, or want of memory.
 pub record IsDueStatus (bytes : List ℕ) (status : Status) : Type 0 where

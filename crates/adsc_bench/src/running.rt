@@ -1,46 +1,45 @@
 //! The command `run`.
-ghost use Rattle.std.specs.Prelude.{◌≡◌, ◌↔◌, IsTrue};
+ghost use Rattle.std.specs.Prelude.{◌≡◌, ◌≤◌};
 ghost use Rattle.adsc_bench.specs.Running.{Runs, status_of_end};
+ghost use Rattle.adsc_bench.specs.Seen.{seen};
 
 use crate::status::Status;
-use adsc_io::{NoMemory, Sink, Source, WriteFault, write_all};
-use adsc_run::{End, RunFault, outcome_text, run_script};
+use adsc_io::{Sink, Source, WriteFault};
+use adsc_run::{Gate, RunFault, run_script, write_outcome};
+use run_rules::{End, what_is_shown_was_accepted};
 use std::alloc::Global;
+use std::sync::Wait;
+use std::thread::Threads;
 
-/// Reads a script from the source, runs it on one worker, and writes its output to the sink. This project's profile.
+/// Reads a script from the source, runs it on so many workers, and writes its output to the sink. This project's profile.
 ///
-/// Lines are judged in order. Samples and texts from the ground are carried out; the first bad line, or the limit of lines or
-/// bytes, ends the run. Where a right line says what is not built yet, before any bad line and before the limit, nothing is
-/// written and the status is `NotBuilt`. What each status promises is stated by the clause; want of memory alone is free.
-pub fn run<S: Source, K: Sink>(alloc: Global, source: &mut S, sink: &mut K) -> Status
+/// Lines are judged and carried out in order, up to the first bad line, or the limit of lines or bytes. The entries of a burst of
+/// `U` and `B` lines are taken by the workers, which tell the gate of each. What each status promises is stated by the clause; want
+/// of memory alone is free.
+pub fn run<Rt: Threads + Wait + Sync, S: Source, K: Sink, G: Gate>(
+    rt: &Rt,
+    alloc: Global,
+    workers: u8,
+    source: &mut S,
+    sink: &mut K,
+    gate: &G,
+) -> Status
+    requires { (1 ≤ workers) × (workers ≤ 5) }
     ensures { Runs
-        (record { left = S.left source.old; read_faults = S.faults source.old; written = K.written sink.old; write_faults = K.faults sink.old })
-        (record { left = S.left source.new; read_faults = S.faults source.new; written = K.written sink.new; write_faults = K.faults sink.new })
-        (sink.new ≡ sink.old) result }
+        (seen (S.left source.old) (S.faults source.old) (K.written sink.old) (K.faults sink.old))
+        (seen (S.left source.new) (S.faults source.new) (K.written sink.new) (K.faults sink.new))
+        workers (sink.new ≡ sink.old) result }
 {
-    let outcome = match run_script(alloc, source) {
+    what_is_shown_was_accepted();
+    let outcome = match run_script(rt, alloc, workers, source, gate) {
         Ok(outcome) => outcome,
         Err(RunFault::Read) => return Status::ReadFault,
         Err(RunFault::NoMemory) => return Status::NoMemory,
     };
-    if is_not_built(outcome.end) {
-        return Status::NotBuilt;
-    }
-    let text = match outcome_text(alloc, &outcome) {
-        Ok(text) => text,
-        Err(NoMemory) => return Status::NoMemory,
-    };
-    match write_all(sink, text.as_slice()) {
+    match write_outcome(sink, &outcome) {
         Ok(()) => status_of(outcome.end),
         Err(WriteFault) => Status::WriteFault,
     }
-}
-
-/// Whether the run met what is not built yet.
-fn is_not_built(end: End) -> bool
-    ensures { IsTrue result ↔ (end ≡ End.NotBuilt) }
-{
-    matches!(end, End::NotBuilt)
 }
 
 /// The status of a run that ended so.
@@ -51,6 +50,5 @@ fn status_of(end: End) -> Status
         End::Done => Status::Done,
         End::Bad(_) => Status::BadLine,
         End::Limit { .. } => Status::Limit,
-        End::NotBuilt => Status::NotBuilt,
     }
 }

@@ -22,9 +22,6 @@ pub enum Status {
     /// The limit of lines or bytes was met before any bad line. `run` carried out the lines before and wrote which line is over
     /// it; `show` wrote the shown text of the lines before.
     Limit = 7,
-    /// The input has a right line whose form is not built yet. `run` wrote nothing, and `show` the shown text of the lines
-    /// before it.
-    NotBuilt = 8,
 }
 
 impl Status {

@@ -2,7 +2,10 @@
 use super::*;
 use adsc_io::{MemSink, MemSource};
 use std::alloc::Global;
+use std::sync::Wait;
+use std::sync::atomic::{AtomicU64, Ordering};
 use std::test::Fail;
+use std::thread::Threads;
 
 const HEAD: &str =
     "A,N12345,ANZ1,C81234\nG,AKLCDYA\nS,0,0,0,0,0,0,0,0,0,0,0,0,0,0,0,0,0,0,0,0,0,0,0,0,0,0\n";
@@ -16,12 +19,17 @@ fn words_of(alloc: Global, texts: &[&str]) -> Result<Vec<String>, Fail> {
     Ok(words)
 }
 
-/// The status of a run of this script on one worker, and what was written.
-fn run_of(alloc: Global, script: &[u8]) -> Result<(Status, Vec<u8>), Fail> {
-    let words = words_of(alloc, &["run", "1"])?;
+/// The status of a run of this script on so many workers, and what was written.
+fn run_of<Rt: Threads + Wait + Sync>(
+    rt: &Rt,
+    alloc: Global,
+    count: &str,
+    script: &[u8],
+) -> Result<(Status, Vec<u8>), Fail> {
+    let words = words_of(alloc, &["run", count])?;
     let mut source = MemSource::new(alloc, script, 1_007, &[])?;
-    let mut sink = MemSink::new(alloc, 1_000, 5, &[])?;
-    let status = top(alloc, words.as_slice(), &mut source, &mut sink);
+    let mut sink = MemSink::new(alloc, 4_000, 5, &[])?;
+    let status = top(rt, alloc, words.as_slice(), &mut source, &mut sink, &Free);
     Ok((status, sink.written().to_vec(alloc)?))
 }
 
@@ -51,7 +59,7 @@ fn repeated(alloc: Global, line: &str, count: u32) -> Result<String, Fail> {
 #[test]
 fn scripts_are_run(rt: HostRuntime) -> Result<(), Fail> {
     let alloc = rt.alloc();
-    let table: [(&str, &str, Status, &str); 13] = [
+    let table: [(&str, &str, Status, &str); 11] = [
         (HEAD, "", Status::Done, "J\nL,AKLCDYA,none\nOK\n"),
         (
             HEAD,
@@ -78,13 +86,6 @@ fn scripts_are_run(rt: HostRuntime) -> Result<(), Fail> {
             "J,4\nBAD,5,FIELD,1\n",
         ),
         (HEAD, "G,AKLCDYA\n", Status::BadLine, "J\nBAD,4,KIND,0\n"),
-        (HEAD, "K,AKLCDYA,A\nT,-1\n", Status::NotBuilt, ""),
-        (
-            HEAD,
-            "U,/AKLCDYA.ADS.N123450701BD4F\nC,AKLCDYA,0700\n",
-            Status::NotBuilt,
-            "",
-        ),
         (
             HEAD,
             "U,/AKLCDYA.AFN/FMHANZ1,.N12345/FAK0/FARADS,05087\n",
@@ -113,9 +114,90 @@ fn scripts_are_run(rt: HostRuntime) -> Result<(), Fail> {
     ];
     for (head, lines, status, output) in table {
         let script = format!(in alloc; "{head}{lines}")?;
-        let (found, written) = run_of(alloc, script.as_bytes())?;
-        assert_eq!(rt; found, status, "at {lines}");
-        assert_eq!(rt; written.as_slice(), output.as_bytes(), "at {lines}");
+        // One address, or none of several in a burst: each number of workers gives the same.
+        for count in ["1", "2", "5"] {
+            let (found, written) = run_of(&rt, alloc, count, script.as_bytes())?;
+            assert_eq!(rt; found, status, "at {lines}");
+            assert_eq!(rt; written.as_slice(), output.as_bytes(), "at {lines}");
+        }
+    }
+    Ok(())
+}
+
+#[test]
+fn centres_ask_and_hear(rt: HostRuntime) -> Result<(), Fail> {
+    let alloc = rt.alloc();
+    let table: [(&str, Status, &str); 6] = [
+        // A contact is brought, and its answer; a request is brought twice, and so is what it was answered.
+        (
+            "L,AKLCDYA\nR,AKLCDYA,1\nC,AKLCDYA,07000BA5\nB,AKLCDYA,2\nB,AKLCDYA,2\nR,AKLCDYA,2\nR,AKLCDYA,2\n",
+            Status::Done,
+            "J,4,7,8\nL,AKLCDYA,sent\nD,/AKLCDYA.AFN/FMHANZ1,.N12345,C81234,000000/FPON00000E000000,0/FCOADS,013093\nD,/AKLCDYA.ADS.N12345030107000000000000000000007E26\nD,/AKLCDYA.ADS.N123450301718B\nC,AKLCDYA,D,none\nC,AKLCDYA,P,confirmed,07010BA5\nC,AKLCDYA,V,none\nC,AKLCDYA,M,none\nOK\n",
+        ),
+        (
+            "L,AKLCDYA\nU,/AKLCDYA.AFN/FMHANZ1,.N12345/FAK3/FARADS,0E148\n",
+            Status::Done,
+            "J,4,5\nL,AKLCDYA,rejected,3\nD,/AKLCDYA.AFN/FMHANZ1,.N12345,C81234,000000/FPON00000E000000,0/FCOADS,013093\nOK\n",
+        ),
+        ("C,AKLCDYA,0700\n", Status::BadLine, "J\nBAD,4,LOGON,0\n"),
+        (
+            "L,AKLCDYA\nR,AKLCDYA,2\n",
+            Status::BadLine,
+            "J,4\nBAD,5,NUMBER,1\n",
+        ),
+        ("L,AAAAAAA\n", Status::BadLine, "J\nBAD,4,ADDRESS,1\n"),
+        (
+            "U,/AKLCDYA.ADS.N123450701BD4F\nR,AKLCDYA,1\n",
+            Status::BadLine,
+            "J,4\nBAD,5,ROLE,0\n",
+        ),
+    ];
+    for (lines, status, output) in table {
+        let script = format!(in alloc; "{HEAD}{lines}")?;
+        for count in ["1", "3"] {
+            let (found, written) = run_of(&rt, alloc, count, script.as_bytes())?;
+            assert_eq!(rt; found, status, "at {lines}");
+            assert_eq!(rt; written.as_slice(), output.as_bytes(), "at {lines}");
+        }
+    }
+    Ok(())
+}
+
+/// A gate that counts.
+#[derive(Debug, Drop)]
+struct Counting {
+    befores: AtomicU64,
+    afters: AtomicU64,
+}
+
+impl Gate for Counting {
+    fn before(&self, _line: u32) {
+        self.befores.fetch_add(1, Ordering::SeqCst);
+    }
+
+    fn after(&self, _line: u32) {
+        self.afters.fetch_add(1, Ordering::SeqCst);
+    }
+}
+
+#[test]
+fn the_gate_is_told_of_each_entry_of_a_burst(rt: HostRuntime) -> Result<(), Fail> {
+    let alloc = rt.alloc();
+    let script =
+        "A,N12345,ANZ1,C81234\nG,GRND001,GRND002,GRND003\nS,0,0,0,0,0,0,0,0,0,0,0,0,0,0,0,0,0,0,0,0,0,0,0,0,0,0\nT,0\nU,/GRND001.ADS.N123450701BD4F\nU,x\nU,/GRND002.ADS.N123450701BD4F\nU,/GRND003.ADS.N123450701BD4F\n";
+    for count in ["1", "2", "3", "4", "5"] {
+        let words = words_of(alloc, &["run", count])?;
+        let mut source = MemSource::new(alloc, script.as_bytes(), 100, &[])?;
+        let mut sink = MemSink::new(alloc, 1_000, 100, &[])?;
+        let gate = Counting {
+            befores: AtomicU64::new(0),
+            afters: AtomicU64::new(0),
+        };
+        let status = top(&rt, alloc, words.as_slice(), &mut source, &mut sink, &gate);
+        assert_eq!(rt; status, Status::Done);
+        assert_eq!(rt; gate.befores.load(Ordering::SeqCst), 3);
+        assert_eq!(rt; gate.afters.load(Ordering::SeqCst), 3);
+        assert!(rt; sink.written().starts_with(b"J,4,"));
     }
     Ok(())
 }
@@ -125,7 +207,7 @@ fn the_limit_ends_a_run(rt: HostRuntime) -> Result<(), Fail> {
     let alloc = rt.alloc();
     let refused = repeated(alloc, "U,x\n", 199_996)?;
     let script = format!(in alloc; "{HEAD}U,/AKLCDYA.ADS.N123450701BD4F\n{refused}T,-1")?;
-    let (status, written) = run_of(alloc, script.as_bytes())?;
+    let (status, written) = run_of(&rt, alloc, "2", script.as_bytes())?;
     assert_eq!(rt; status, Status::Limit);
     assert_eq!(rt; written.as_slice(), b"J,4\nLIMIT,200001\n".as_slice());
     Ok(())
@@ -134,10 +216,13 @@ fn the_limit_ends_a_run(rt: HostRuntime) -> Result<(), Fail> {
 #[test]
 fn other_words_read_and_write_nothing(rt: HostRuntime) -> Result<(), Fail> {
     let alloc = rt.alloc();
-    let table: [&[&str]; 6] = [
+    let table: [&[&str]; 9] = [
         &[],
         &["run"],
+        &["run", "0"],
         &["run", "6"],
+        &["run", "01"],
+        &["run", ""],
         &["run", "1", "1"],
         &["RUN", "1"],
         &["1", "run"],
@@ -147,12 +232,80 @@ fn other_words_read_and_write_nothing(rt: HostRuntime) -> Result<(), Fail> {
         let mut source = MemSource::new(alloc, HEAD.as_bytes(), 100, &[1])?;
         let mut sink = MemSink::new(alloc, 100, 100, &[])?;
         assert_eq!(rt;
-            top(alloc, words.as_slice(), &mut source, &mut sink),
+            top(&rt, alloc, words.as_slice(), &mut source, &mut sink, &Free),
             Status::Words
         );
         assert_eq!(rt; source.faults(), 0);
         assert_eq!(rt; sink.written(), b"".as_slice());
     }
+    Ok(())
+}
+
+/// The status of `make` with these words behind it, over a source that can't be read and a sink of which these writes fail, and what was
+/// written. A write takes 40 bytes.
+fn make_of<Rt: Threads + Wait + Sync>(
+    rt: &Rt,
+    alloc: Global,
+    texts: &[&str],
+    writes: &[u64],
+) -> Result<(Status, Vec<u8>), Fail> {
+    let words = words_of(alloc, texts)?;
+    let mut source = MemSource::new(alloc, HEAD.as_bytes(), 100, &[1])?;
+    let mut sink = MemSink::new(alloc, 1_000, 40, writes)?;
+    let status = top(rt, alloc, words.as_slice(), &mut source, &mut sink, &Free);
+    if source.faults() > 0 {
+        return Err(Fail::new("a read of the source"));
+    }
+    Ok((status, sink.written().to_vec(alloc)?))
+}
+
+#[test]
+fn generated_scripts_are_summarized(rt: HostRuntime) -> Result<(), Fail> {
+    let alloc = rt.alloc();
+    // Numbers and counts that are within the limits, and some that aren't, or that aren't written as they should be.
+    let table: [(&[&str], Status, &str); 13] = [
+        (
+            &["make", "1", "3"],
+            Status::Done,
+            "M,1,3,0,0\nM,GRND001,0,0,0000\nM,GRND002,0,0,0000\nM,GRND003,0,0,0000\nM,GRND004,0,0,0000\nM,GRND005,0,0,0000\nOK\n",
+        ),
+        (
+            &["make", "4294967295", "3"],
+            Status::Done,
+            "M,4294967295,3,0,0\nM,GRND001,0,0,0000\nM,GRND002,0,0,0000\nM,GRND003,0,0,0000\nM,GRND004,0,0,0000\nM,GRND005,0,0,0000\nOK\n",
+        ),
+        (&["make"], Status::Words, ""),
+        (&["make", "1"], Status::Words, ""),
+        (&["make", "07", "3"], Status::Words, ""),
+        (&["make", "+7", "3"], Status::Words, ""),
+        (&["make", "4294967296", "3"], Status::Words, ""),
+        (&["make", "", "3"], Status::Words, ""),
+        (&["make", "1", "2"], Status::Words, ""),
+        (&["make", "1", "03"], Status::Words, ""),
+        (&["make", "1", "200001"], Status::Words, ""),
+        (&["make", "1", "3", "5"], Status::Words, ""),
+        (&["MAKE", "1", "3"], Status::Words, ""),
+    ];
+    for (texts, due, output) in table {
+        let (status, written) = make_of(&rt, alloc, texts, &[])?;
+        assert_eq!(rt; status, due);
+        assert_eq!(rt; written.as_slice(), output.as_bytes());
+    }
+
+    // Two runs give the same bytes, and each line behind the head makes an entry.
+    let (status, first) = make_of(&rt, alloc, &["make", "7", "2000"], &[])?;
+    let (_, second) = make_of(&rt, alloc, &["make", "7", "2000"], &[])?;
+    assert_eq!(rt; status, Status::Done);
+    assert!(rt; first.starts_with(b"M,7,2000,1997,"));
+    assert_eq!(rt; first.as_slice(), second.as_slice());
+
+    // The second write fails.
+    let (status, written) = make_of(&rt, alloc, &["make", "1", "3"], &[2])?;
+    assert_eq!(rt; status, Status::WriteFault);
+    assert_eq!(rt;
+        written.as_slice(),
+        b"M,1,3,0,0\nM,GRND001,0,0,0000\nM,GRND002,0".as_slice()
+    );
     Ok(())
 }
 
@@ -169,7 +322,7 @@ fn faults_end_a_run(rt: HostRuntime) -> Result<(), Fail> {
     for (script, reads, writes, status, output) in table {
         let mut source = MemSource::new(alloc, script.as_bytes(), 100, reads)?;
         let mut sink = MemSink::new(alloc, 100, 1, writes)?;
-        assert_eq!(rt; run(alloc, &mut source, &mut sink), status);
+        assert_eq!(rt; run(&rt, alloc, 1, &mut source, &mut sink, &Free), status);
         assert_eq!(rt; source.faults(), reads.len() as u64);
         assert_eq!(rt; sink.faults(), writes.len() as u64);
         assert_eq!(rt; sink.written(), output.as_bytes());
@@ -219,7 +372,7 @@ fn texts_are_shown(rt: HostRuntime) -> Result<(), Fail> {
             let mut source = MemSource::new(alloc, lines.as_bytes(), piece, &[])?;
             let mut sink = MemSink::new(alloc, 1_000, 5, &[])?;
             assert_eq!(rt;
-                top(alloc, words.as_slice(), &mut source, &mut sink),
+                top(&rt, alloc, words.as_slice(), &mut source, &mut sink, &Free),
                 status,
                 "at {lines}"
             );

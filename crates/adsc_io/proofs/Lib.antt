@@ -1,9 +1,7 @@
-pub mod InputLaws
 pub mod LineEndLaws
 pub mod Joined
 pub mod LimitLaws
 pub mod LinesLaws
 pub mod MemoryLemmas
 pub mod OneLine
-pub mod PassedLaws
 pub mod ReaderLaws

@@ -1,13 +1,13 @@
 -- The laws of the limit of an input, and of the lines before it.
-use Rattle.std.proofs.Common.{◌≡◌, ◌≢◌, ℕ, zero, suc, ◌+◌, ◌-◌, ◌<◌, ◌≤◌, ◌⊎◌, inl, inr, Bool, true, false, IsTrue, cond, eqb, List, [], ◌∷◌, ◌++◌, All, length, take, drop, ◌↔◌, sym, ap, ◌∙◌, refl, subst, append_assoc, arith, ne_eqb}
+use Rattle.std.proofs.Common.{◌≡◌, ◌≢◌, ℕ, zero, suc, ◌+◌, ◌<◌, ◌≤◌, ◌⊎◌, inl, inr, true, false, cond, eqb, List, [], ◌∷◌, ◌++◌, All, length, take, sym, ap, ◌∙◌, refl, subst, append_assoc, arith}
 use Rattle.std.proofs.lemmas.Bool.{cases_Bool, cases_lt, eqb-true, eqb-false, le-leb, lt-leb, leb-true, leb-false, and_parts, and_from, and_cases, and_left, and_right, cond-true, cond-false}
-use Rattle.std.proofs.lemmas.List.{length-append, length-drop, length-take-le, take-append-drop, take-append-le, take_at, drop_at, take_all}
+use Rattle.std.proofs.lemmas.List.{length-append, take_at, take_all}
 use Rattle.std.proofs.lemmas.List.Elements.{All-nil, All-cons, All-head, All-tail}
-use Rattle.adsc_io.specs.Inputs.{IsLineAt, IsOverLimit, is_within_limits, line_end, lines_before_limit, lines_within, onto_whole, whole_lines}
-use Rattle.adsc_io.specs.Lines.{newline, script_lines, ended_lines, BeginsWithLine, IsUnbroken}
+use Rattle.adsc_io.specs.Inputs.{IsOverLimit, is_within_limits, line_end, lines_before_limit, lines_within, onto_whole, whole_lines}
+use Rattle.adsc_io.specs.Lines.{newline, script_lines, ended_lines, IsUnbroken}
 use Rattle.adsc_io.specs.declared.limits.TheConstants.{MAX_SCRIPT_BYTES, MAX_SCRIPT_LINES}
-use Rattle.adsc_io.proofs.LineEndLaws.{begins_or_none, line_end-later, next_line_end, unbroken_within}
-use Rattle.adsc_io.proofs.LinesLaws.{ended-script_lines, script_lines-next}
+use Rattle.adsc_io.proofs.LineEndLaws.{line_end-later}
+use Rattle.adsc_io.proofs.LinesLaws.{script_lines-next}
 
 -- ---- which lines are within the limits
 
@@ -78,39 +78,7 @@ pub before_limit-front : (bytes : List ℕ) (count : ℕ) → is_within_limits b
 before_limit-front bytes count within =
     lines_within-front bytes 1 (script_lines bytes) count (λ n low. within_before bytes n count (omega (arith, low)) within)
 
-lines_within-few : (bytes : List ℕ) (number : ℕ) (lines : List (List ℕ)) → number + length (lines_within bytes number lines) ≤ number + (MAX_SCRIPT_LINES + 1 - number)
-lines_within-few bytes number [] = omega arith
-lines_within-few bytes number (line ∷ lines) = at (is_within_limits bytes number) refl (lines_within-few bytes (number + 1) lines)
-  where
-    at : (within : Bool) → is_within_limits bytes number ≡ within
-        → number + 1 + length (lines_within bytes (number + 1) lines) ≤ number + 1 + (MAX_SCRIPT_LINES + 1 - (number + 1))
-        → number + length (cond within (line ∷ lines_within bytes (number + 1) lines) []) ≤ number + (MAX_SCRIPT_LINES + 1 - number)
-    at true within few = omega (arith, (within_parts bytes number within).0, few)
-    at false over few = omega arith
-
--- The lines before the limit are no more than a script may have.
-pub few_before : (bytes : List ℕ) → length (lines_before_limit bytes) ≤ MAX_SCRIPT_LINES
-few_before bytes = omega (arith, lines_within-few bytes 1 (script_lines bytes))
-
 -- ---- whether the limit is met
-
--- The last line ends with the input.
-line_end-last : (bytes : List ℕ) → line_end bytes (length (script_lines bytes)) ≡ length bytes
-line_end-last bytes =
-    let all = ap (λ ls. length (ended_lines ls)) (take_all (length (script_lines bytes)) (script_lines bytes) (omega arith)) in
-    elim (ended-script_lines bytes) [
-      | inl whole ↦ omega (arith, all, ap length whole)
-      | inr started ↦ omega (arith, all, ap length started, length-append bytes (newline ∷ []))
-    ]
-
--- An input of too many bytes is over the limit.
-pub over_by_bytes : (bytes : List ℕ) → MAX_SCRIPT_BYTES < length bytes → IsOverLimit bytes
-over_by_bytes bytes long =
-    (length (script_lines bytes), (refl, omega arith, over_from_place bytes (length (script_lines bytes)) (omega (arith, long, line_end-last bytes))))
-
--- An input of too many lines is over the limit.
-pub over_by_lines : (bytes : List ℕ) → MAX_SCRIPT_LINES < length (script_lines bytes) → IsOverLimit bytes
-over_by_lines bytes many = (MAX_SCRIPT_LINES + 1, (refl, omega (arith, many), over_from_number bytes (MAX_SCRIPT_LINES + 1) (omega arith)))
 
 -- Within the limit of bytes an input over the limit has too many lines.
 pub over_is_many : (bytes : List ℕ) → length bytes ≤ MAX_SCRIPT_BYTES → IsOverLimit bytes → MAX_SCRIPT_LINES < length (script_lines bytes)
@@ -198,69 +166,4 @@ line_end-whole bytes rest lines unbroken joined = omega (
   ap length joined,
   length-append (ended_lines lines) rest,
   ap (λ ls. length (ended_lines ls)) (ap (take (length lines)) (ap script_lines joined ∙ script_lines-whole lines rest unbroken) ∙ take_at lines (script_lines rest) (length lines) refl),
-)
-
--- Over the limit of bytes the lines before the limit are the first ones that end within it.
-pub before_long : (bytes : List ℕ) → MAX_SCRIPT_BYTES < length bytes → lines_before_limit bytes ≡ take MAX_SCRIPT_LINES (whole_lines (take MAX_SCRIPT_BYTES bytes))
-before_long bytes long = at (whole_lines-split (take MAX_SCRIPT_BYTES bytes))
-  where
-    whole : List (List ℕ)
-    whole = whole_lines (take MAX_SCRIPT_BYTES bytes)
-
-    at : IsSplit (take MAX_SCRIPT_BYTES bytes) → lines_before_limit bytes ≡ take MAX_SCRIPT_LINES whole
-    at split = elim (cases_lt MAX_SCRIPT_LINES (length whole)) [
-      | inl many ↦ before_limit-at bytes MAX_SCRIPT_LINES (within_from bytes MAX_SCRIPT_LINES (omega arith) (omega (arith, short, line_end-later bytes MAX_SCRIPT_LINES (length whole) (omega (arith, many))))) (inr (over_from_number bytes (MAX_SCRIPT_LINES + 1) (omega arith)))
-          ∙ ap (take MAX_SCRIPT_LINES) lines
-          ∙ take-append-le MAX_SCRIPT_LINES whole (script_lines tail) (omega (arith, many))
-      | inr few ↦ before_limit-at bytes (length whole) (within_from bytes (length whole) few short) (inr (over_from_place bytes (length whole + 1) behind))
-          ∙ ap (take (length whole)) lines
-          ∙ take_at whole (script_lines tail) (length whole) refl
-          ∙ sym (take_all MAX_SCRIPT_LINES whole few)
-    ]
-      where
-        tail : List ℕ
-        tail = split.beginning ++ drop MAX_SCRIPT_BYTES bytes
-
-        joined : bytes ≡ ended_lines whole ++ tail
-        joined = sym (take-append-drop MAX_SCRIPT_BYTES bytes) ∙ ap (λ front. front ++ drop MAX_SCRIPT_BYTES bytes) split.joined ∙ append_assoc (ended_lines whole) split.beginning (drop MAX_SCRIPT_BYTES bytes)
-
-        lines : script_lines bytes ≡ whole ++ script_lines tail
-        lines = ap script_lines joined ∙ script_lines-whole whole tail split.lines
-
-        place : line_end bytes (length whole) ≡ length (ended_lines whole)
-        place = line_end-whole bytes tail whole split.lines joined
-
-        sizes : (length (ended_lines whole) + length split.beginning ≡ MAX_SCRIPT_BYTES) × (length (drop MAX_SCRIPT_BYTES bytes) + MAX_SCRIPT_BYTES ≡ length bytes)
-        sizes = (
-          omega (arith, long, ap length split.joined, length-append (ended_lines whole) split.beginning, length-take-le MAX_SCRIPT_BYTES bytes),
-          omega (arith, long, length-drop MAX_SCRIPT_BYTES bytes),
-        )
-
-        short : line_end bytes (length whole) ≤ MAX_SCRIPT_BYTES
-        short = omega (arith, place, sizes.0)
-
-        behind : MAX_SCRIPT_BYTES < line_end bytes (length whole + 1)
-        behind = elim (begins_or_none tail) [
-          | inl none ↦ absurd (omega (arith, long, sizes.1, ap length none, length-append split.beginning (drop MAX_SCRIPT_BYTES bytes)))
-          | inr (line, more, begins) ↦
-              let here : drop (line_end bytes (length whole)) bytes ≡ tail = ap (λ k. drop k bytes) place ∙ ap (drop (length (ended_lines whole))) joined ∙ drop_at (ended_lines whole) tail (length (ended_lines whole)) refl in
-              let next = next_line_end (length whole) bytes line more (subst (λ bs. BeginsWithLine bs line more) (sym here) begins) in
-              elim (unbroken_within split.beginning (drop MAX_SCRIPT_BYTES bytes) line more split.unbroken begins) [
-                | inl inside ↦ omega (arith, next.0, inside, sizes.1)
-                | inr none ↦ omega (arith, next.0, ap length none, long)
-              ]
-        ]
-
--- Bytes over the limit have these lines before the limit, whatever follows.
-pub before_more : (bytes more : List ℕ) → MAX_SCRIPT_BYTES < length bytes → lines_before_limit (bytes ++ more) ≡ lines_before_limit bytes
-before_more bytes more long =
-    before_long (bytes ++ more) (omega (arith, long, length-append bytes more))
-    ∙ ap (λ front. take MAX_SCRIPT_LINES (whole_lines front)) (take-append-le MAX_SCRIPT_BYTES bytes more (omega (arith, long)))
-    ∙ sym (before_long bytes long)
-
--- Within the limit of bytes the limit is that of lines.
-pub over_within : (bytes : List ℕ) (more : Bool) → (MAX_SCRIPT_BYTES < length bytes → ⊥) → IsTrue more ↔ (MAX_SCRIPT_LINES < length (script_lines bytes)) → IsTrue more ↔ IsOverLimit bytes
-over_within bytes more short over = (
-  λ is. over_by_lines bytes (over.0 is),
-  λ limit. over.1 (over_is_many bytes (elim (cases_lt MAX_SCRIPT_BYTES (length bytes)) [ inl long ↦ absurd (short long) | inr at_most ↦ at_most ]) limit),
 )

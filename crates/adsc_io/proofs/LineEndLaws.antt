@@ -1,12 +1,12 @@
 -- The laws of where a line of an input ends, and of what stands behind it.
-use Rattle.std.proofs.Common.{◌≡◌, ◌≢◌, ℕ, zero, suc, ◌+◌, ◌<◌, ◌≤◌, eqb, List, [], ◌∷◌, ◌++◌, length, take, drop, get_or, ◌⊎◌, inl, inr, sym, ap, ◌∙◌, refl, subst, arith, min}
+use Rattle.std.proofs.Common.{◌≡◌, ◌≢◌, ℕ, zero, suc, ◌+◌, ◌<◌, ◌≤◌, eqb, List, [], ◌∷◌, ◌++◌, length, take, drop, get_or, ◌⊎◌, inl, inr, sym, ap, ◌∙◌, refl, subst, arith}
 use Rattle.std.proofs.lemmas.Bool.{cases_Bool, cases_lt, eqb-true, eqb-false}
-use Rattle.std.proofs.lemmas.List.{append_assoc, length-append, length-drop, length-take-le, take-append-drop, drop-drop, drop_at, drop_all, get_or-append-add, take_at}
+use Rattle.std.proofs.lemmas.List.{append_assoc, length-append, length-drop, length-take-le, take-append-drop, drop-drop, drop_at, drop_all, get_or-append-add}
 use Rattle.std.proofs.lemmas.List.Elements.{All-nil, All-cons, All-get_or}
 use Rattle.std.proofs.Math.ListN.{get_or-append}
 use Rattle.adsc_io.specs.Inputs.{HasLine, line_end}
 use Rattle.adsc_io.specs.Lines.{newline, script_lines, ended_lines, BeginsWithLine, IsUnbroken}
-use Rattle.adsc_io.proofs.LinesLaws.{script_lines-begins, script_lines-none, length-begins}
+use Rattle.adsc_io.proofs.LinesLaws.{script_lines-begins, length-begins}
 
 -- Bytes begin with a line, unless there are none.
 pub begins_or_none : (bytes : List ℕ) → (bytes ≡ []) ⊎ ((line : List ℕ) × (rest : List ℕ) × BeginsWithLine bytes line rest)

@@ -12,8 +12,8 @@ use Rattle.adsc_io.specs.declared.limits.TheConstants.{MAX_LINE_BYTES, MAX_SCRIP
 use Rattle.adsc_io.specs.declared.line.Line.{Line}
 use Rattle.adsc_io.specs.declared.line.Line.TheVariants.{Text, End, TooLong, Limit}
 use Rattle.adsc_io.proofs.Joined.{Consumes-none, Consumes-then}
-use Rattle.adsc_io.proofs.LimitLaws.{IsSplit, over_from_number, over_from_place, script_lines-whole, whole_lines-split, within_from, within_parts}
-use Rattle.adsc_io.proofs.LineEndLaws.{begins_or_none, has_next_line, line_is_there, next_line_end, none_behind, script_lines-behind, start, unbroken_within}
+use Rattle.adsc_io.proofs.LimitLaws.{IsSplit, over_from_number, over_from_place, script_lines-whole, whole_lines-split, within_from}
+use Rattle.adsc_io.proofs.LineEndLaws.{begins_or_none, has_next_line, line_is_there, next_line_end, none_behind, script_lines-behind, unbroken_within}
 use Rattle.adsc_io.proofs.LinesLaws.{script_lines-next}
 
 -- a reader, by what is seen of it

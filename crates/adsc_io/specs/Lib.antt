@@ -6,4 +6,3 @@ pub mod Memory
 pub mod Readers
 pub mod Writes
 pub mod Standard
-pub mod Whole

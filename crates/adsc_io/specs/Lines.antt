@@ -22,10 +22,6 @@ abbrev pub ended_lines : List (List ℕ) → List ℕ
 ended_lines [] = []
 ended_lines (line ∷ lines) = line ++ newline ∷ ended_lines lines
 
--- These bytes are the beginning of those.
-abbrev pub IsFront : List ℕ → List ℕ → Type 0
-IsFront front bytes = (behind : List ℕ) × (bytes ≡ front ++ behind)
-
 -- no newline is in this line
 abbrev pub IsUnbroken : List ℕ → Type 0
 IsUnbroken line = All (λ byte. byte ≢ newline) line

@@ -6,8 +6,8 @@
 //! the device. `MemSource`, `SteadySource` and `MemSink` stand in memory, with chosen calls that fail, for tests;
 //! `StdSource` and `StdSink` are thin adapters over the readers and writers of the standard library, for the program.
 //! A [`LineReader`] answers the lines of a source one by one, in memory that it takes once, whatever pieces the source
-//! gives. Above stand the crates that read scripts and write outputs, up to the bench: `show` reads by a `LineReader`, and
-//! `run` by `read_whole`, `before_limit` and `next_line`; both write by `write_all`.
+//! gives. Above stand the crates that read scripts and write outputs, up to the bench: `show` and `run` read by a
+//! `LineReader` and write by `write_all`.
 //!
 //! Begin with `specs/Causes.antt` (when a fault may be answered), then `traits.rt`, then `specs/Lines.antt` (what a line
 //! is), `specs/Inputs.antt` (what stands at a number of an input, and which lines stand before its limit) and
@@ -21,7 +21,6 @@ mod line;
 mod line_reader;
 mod memory_input;
 mod memory_output;
-mod reading;
 mod slices;
 mod standard;
 mod traits;
@@ -34,8 +33,7 @@ pub use line::Line;
 pub use line_reader::LineReader;
 pub use memory_input::{MemSource, SteadySource};
 pub use memory_output::MemSink;
-pub use reading::{Octets, Whole, WholeEnd, read_whole};
-pub use slices::{before_limit, next_line};
+pub use slices::next_line;
 pub use standard::{StdSink, StdSource};
 pub use traits::{Sink, Source};
 pub use writing::write_all;

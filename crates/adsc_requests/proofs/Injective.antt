@@ -17,14 +17,8 @@ use Rattle.adsc_requests.specs.declared.message.Moduli.{Moduli}
 use Rattle.adsc_requests.specs.declared.message.Message.{Message}
 use Rattle.adsc_requests.specs.declared.message.Message.TheVariants.{CancelAll, Cancel, CancelEmergency, Periodic, Event, Emergency}
 use Rattle.adsc_requests.specs.declared.message.Uplink.{Uplink}
-use Rattle.std.proofs.Common.{Result, Ok, append-nil}
-use Rattle.adsc_requests.specs.Grammar.{message_octets}
-use Rattle.adsc_requests.specs.Reading.{message_at}
-use Rattle.adsc_requests.specs.declared.decoding.stop.Stop.{Stop}
-use Rattle.adsc_requests.proofs.ReadingLemmas.{same_ok}
-use Rattle.adsc_requests.proofs.Along.{message_at-whole}
 use Rattle.adsc_requests.proofs.Collecting.{on_bool, is_among}
-use Rattle.adsc_requests.proofs.Whole.{signed_16-octets, message_is_whole, message_in_order}
+use Rattle.adsc_requests.proofs.Whole.{signed_16-octets}
 
 -- ---- structs with the same fields are equal
 
@@ -304,22 +298,3 @@ same_messages (m ∷ ms) (n ∷ ns) e =
 -- Uplinks that ask the same are equal.
 pub same_contents : (a b : Uplink) → contents_of a ≡ contents_of b → a ≡ b
 same_contents a b e = same_uplink a b (same_messages a.messages.items b.messages.items e)
-
--- ---- messages that are written alike
-
-abbrev read_to : Content → Result (Content × List ℕ) Stop
-read_to x = Ok (x, [])
-
-written_reads : (m : Message) → message_at 0 (message_octets (content_of m)) ≡ Ok (content_of m, [])
-written_reads m =
-    ap (message_at 0) (sym (append-nil (message_octets (content_of m))))
-    ∙ message_at-whole 0 (content_of m) [] (message_is_whole m) tt
-    ∙ ap (λ (c : Content). Ok (c, [])) (message_in_order m)
-
--- Messages with the same octets are equal.
-pub same_written : (a b : Message) → message_octets (content_of a) ≡ message_octets (content_of b) → a ≡ b
-same_written a b same =
-    same_message a b (content (content_of a) (content_of b) (sym (written_reads a) ∙ ap (message_at 0) same ∙ written_reads b))
-  where
-    content : (x y : Content) → read_to x ≡ read_to y → x ≡ y
-    content x y e = ap (λ (p : Content × List ℕ). p.0) (same_ok (x, []) (y, []) e)

@@ -1,6 +1,6 @@
 -- What a message asks, as plain numbers: its tag, its number and its groups by rising tag. Definitions and laws
 -- speak of this, and not of the types of the code.
-use Rattle.std.specs.Prelude.{ℕ, ◌-◌, List, [], ◌∷◌, ◌++◌, map, slice_index_or, Bool, false, ◌==◌, ◌||◌, nat_lt, Option, Some, None, option_map, if◌then◌else◌, ℤ}
+use Rattle.std.specs.Prelude.{ℕ, ◌-◌, List, [], ◌∷◌, ◌++◌, map, slice_index_or, Bool, false, ◌==◌, ◌||◌, Option, Some, None, option_map, if◌then◌else◌, ℤ}
 use Rattle.std.specs.Int.{w8, w16, to_be_bytes, cast_unsigned}
 use Rattle.adsc_requests.specs.Tables.{is_modulus_tag}
 use Rattle.adsc_requests.specs.declared.message.Intent.{Intent}

@@ -181,21 +181,3 @@ pub fn encode_uplink(uplink: &Uplink) -> ArrayVec<u8, 255>
     }
     out
 }
-
-/// Whether two messages are the same in every field: a request that is heard again under its number
-/// is a repeat exactly there. They are the same where they are written with the same octets.
-pub fn is_same_message(a: &Message, b: &Message) -> bool
-    ensures { IsTrue result ↔ (a.now ≡ b.now) }
-{
-    let mut left = ArrayVec::new();
-    put_message(&mut left, a);
-    let mut right = ArrayVec::new();
-    put_message(&mut right, b);
-    is_same_payload(&left, &right)
-}
-
-fn is_same_payload(a: &Payload, b: &Payload) -> bool
-    ensures { IsTrue result ↔ (a.now.items ≡ b.now.items) }
-{
-    a.as_slice() == b.as_slice()
-}

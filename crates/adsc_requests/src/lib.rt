@@ -28,7 +28,7 @@ mod refusal;
 mod tags;
 
 pub use decoding::decode_uplink;
-pub use encoding::{encode_uplink, is_same_message};
+pub use encoding::encode_uplink;
 pub use kind::{Kind, interval_seconds, kind_of};
 pub use laws::{grammar_or_fault, uplink_or_fault, written_is_encoding};
 pub use message::{Intent, Limits, Message, Moduli, Range, Uplink};

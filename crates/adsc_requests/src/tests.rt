@@ -326,15 +326,6 @@ fn intervals_and_kinds(rt: HostRuntime) {
     ] {
         assert_eq!(rt; kind_of(&cancel), None);
     }
-    assert!(rt; is_same_message(&waypoint(1), &waypoint(1)));
-    for other in [
-        waypoint(2),
-        periodic(1, None, None),
-        periodic(1, Some(0), None),
-    ] {
-        assert!(rt; !is_same_message(&waypoint(1), &other));
-        assert!(rt; !is_same_message(&periodic(1, None, Some(0)), &other));
-    }
     uplink_or_fault(&[7, 1]);
     grammar_or_fault();
     written_is_encoding();

@@ -1,61 +1,122 @@
--- The laws of the head of a script.
-use Rattle.std.proofs.Common.{◌≡◌, ℕ, ◌+◌, ◌-◌, ◌<◌, ◌≤◌, Bool, List, [], ◌∷◌, Option, Some, None, length, map, take, drop, length-drop, refl, sym, ap, ◌∙◌, subst, arith}
-use Rattle.std.proofs.lemmas.List.{length-map}
+-- The laws of the head: how a script comes from stage to stage, and how it ends there.
+use Rattle.std.proofs.Common.{◌≡◌, ℕ, ◌+◌, Bool, true, false, List, [], ◌∷◌, ◌++◌, length, Option, Some, None, IfSome, refl, sym, ap, ◌∙◌, subst, append_assoc, append-nil, arith}
+use Rattle.std.proofs.lemmas.Option.{IfSome_then}
+use Rattle.std.proofs.lemmas.List.{length-append}
+use Rattle.adsc_io.specs.Readers.{LinesRead}
+use Rattle.aircraft_core.specs.Setting.{Setting}
+use Rattle.aircraft_core.specs.declared.who.Who.{Who}
 use Rattle.due_event.specs.RuleTerms.{rules_profile}
 use Rattle.flight_samples.specs.declared.sample.Sample.{Sample as FlightSample}
-use Rattle.aircraft_core.specs.declared.who.Who.{Who}
-use Rattle.aircraft_core.specs.Setting.{Setting}
-use Rattle.net_script.specs.Addresses.{AddressList, IsReserved}
-use Rattle.net_script.specs.Counts.{HasCount}
-use Rattle.net_script.specs.Lines.{SaysAddresses}
-use Rattle.net_script.specs.declared.letter.Letter.TheVariants.{Ground}
+use Rattle.ground_texts.specs.declared.ground_text.GroundText.{GroundText}
 use Rattle.net_script.specs.declared.line.ScriptLine.{ScriptLine}
-use Rattle.net_script.specs.declared.line.ScriptLine.TheVariants as line
-use Rattle.adsc_run.specs.declared.end.End.{End}
-use Rattle.adsc_run.specs.declared.reading.Reading.TheVariants.{Says}
+use Rattle.net_script.specs.declared.refusal.Code.{Code}
+use Rattle.net_script.specs.declared.refusal.Code.TheVariants as code
+use Rattle.run_rules.specs.EarlierLines.{HasHead}
+use Rattle.run_rules.specs.Lines.{step_of}
+use Rattle.run_rules.specs.Runs.{IsScript, Run, ScriptRun, end_behind, ended_run}
+use Rattle.run_rules.specs.Stages.{Stage, begun, named, linked, flying, does, stops, setting_with, stage_behind}
+use Rattle.run_rules.specs.declared.end.End.{End}
+use Rattle.run_rules.specs.declared.reading.Reading.{Reading}
+use Rattle.run_rules.specs.declared.reading.Reading.TheVariants.{Says, Brings}
+use Rattle.run_rules.proofs.EarlierLines.{head_begun, head_ended, head_gone_on, head_stopped}
+use Rattle.adsc_run.specs.Feeds.{HasRead, IsNext, IsWhole}
+use Rattle.adsc_run.specs.Stations.{ends_bad}
+use Rattle.adsc_run.specs.UnderWay.{EndsInHead, IsInHead, IsInStage, StopsBy, StopsInHead, StopsSaying}
+use Rattle.adsc_run.specs.declared.feed.Next.{Next}
+use Rattle.adsc_run.specs.declared.feed.Next.TheVariants as next
 use Rattle.adsc_run.specs.declared.head.Stop.{Stop}
-use Rattle.adsc_run.specs.declared.head.Stop.TheVariants.{Ended, NoMemory}
-use Rattle.adsc_run.specs.Heads.{AreLinks, BeginsSaying, EndsHere, EndsStep, GoesOn, IsInHead}
-use Rattle.adsc_run.specs.Readings.{ReadsLine}
-use Rattle.adsc_run.specs.Runs.{LinesRun, StepRuns, ended_run}
-use Rattle.adsc_run.specs.Steps.{Stage, begun, named, linked, flying, goes, ends, line_step, setting_with}
+use Rattle.adsc_run.specs.declared.head.Stop.TheVariants.{Ended, Fault}
+use Rattle.adsc_run.proofs.FeedLaws.{goes_on_somehow}
 
--- a stage of the head has no aircraft, so a run that ends there is one that ends at the beginning
-pub ended_in_head : (stage : Stage) (end : End) → IsInHead stage → ended_run begun end ≡ ended_run stage end
+-- a stage of the head has no aircraft
+ended_in_head : (stage : Stage) (end : End) → IsInHead stage → ended_run stage [] end ≡ ended_run begun [] end
 ended_in_head begun end head = refl
 ended_in_head (named who) end head = refl
 ended_in_head (linked who addresses kept) end head = refl
 ended_in_head (flying setting) end head = absurd head
 
--- a line that goes on without entries leaves the run to the lines behind it
-pub said_goes_on : (over : Bool) (stage next : Stage) (number : ℕ) (lines : List (List ℕ)) (said : ScriptLine)
-    → BeginsSaying number lines said → line_step stage number said ≡ goes next [] [] → GoesOn over stage number lines next (number + 1) (drop 1 lines)
-said_goes_on over stage next number lines said begins step run behind =
-    subst (λ ls. LinesRun over stage number ls run) (sym begins.joined) (
-      Says said,
-      begins.reads,
-      subst (λ s. StepRuns (λ after rest. LinesRun over after (number + 1) begins.others rest) stage s run) (sym step)
-          (run, subst (λ ls. LinesRun over next (number + 1) (drop 1 ls) run) begins.joined behind, refl),
-    )
+-- a text in the head is bad
+pub brings_in_head : (stage : Stage) (number : ℕ) (found : GroundText) → IsInHead stage → step_of stage [] number (Brings found) ≡ stops code.Head 0
+brings_in_head begun number found head = refl
+brings_in_head (named who) number found head = refl
+brings_in_head (linked who addresses kept) number found head = refl
+brings_in_head (flying setting) number found head = absurd head
 
--- a line that ends the run in the head
-pub said_ends : (over : Bool) (stage : Stage) (number : ℕ) (lines : List (List ℕ)) (said : ScriptLine) (end : End)
-    → BeginsSaying number lines said → IsInHead stage → line_step stage number said ≡ ends end → LinesRun over stage number lines (ended_run begun end)
-said_ends over stage number lines said end begins head step =
-    subst (λ ls. LinesRun over stage number ls (ended_run begun end)) (sym begins.joined) (
-      Says said,
-      begins.reads,
-      subst (λ s. StepRuns (λ after rest. LinesRun over after (number + 1) begins.others rest) stage s (ended_run begun end)) (sym step)
-          (ended_in_head stage end head),
-    )
+-- the head ends too soon
+pub too_soon : (stage : Stage) (number : ℕ) → IsInHead stage → ends_bad number code.Head 0 ≡ end_behind false stage number
+too_soon begun number head = refl
+too_soon (named who) number head = refl
+too_soon (linked who addresses kept) number head = refl
+too_soon (flying setting) number head = absurd head
 
--- the same of a stop, which may be want of memory too
-pub stops_here : (over : Bool) (stage : Stage) (number : ℕ) (lines : List (List ℕ)) (said : ScriptLine) (stop : Stop)
-    → BeginsSaying number lines said → IsInHead stage → EndsStep (line_step stage number said) stop → EndsHere over stage number lines stop
-stops_here over stage number lines said (Ended end) begins head step = said_ends over stage number lines said end begins head step
-stops_here over stage number lines said NoMemory begins head step = tt
+-- nothing was read
+pub stage_begun : (before now : Option (List ℕ)) (reader : LinesRead) → HasRead before now reader [] → IsInStage before now reader 0 begun
+stage_begun before now reader has = record { readings = []; counted = refl; read = has; head = head_begun }
 
--- ---- the three lines together
+-- the head goes on
+pub says_on : (before now left : Option (List ℕ)) (reader behind : LinesRead) (count : ℕ) (stage : Stage) (said : ScriptLine) (stood : IsInStage before now reader count stage)
+    → HasRead before left behind (stood.readings ++ Says said ∷ []) → step_of stage [] (count + 1) (Says said) ≡ does []
+    → IsInStage before left behind (count + 1) (stage_behind stage said)
+says_on before now left reader behind count stage said stood has step = record {
+  readings = stood.readings ++ Says said ∷ [];
+  counted = length-append stood.readings (Says said ∷ []) ∙ ap (λ n. n + 1) stood.counted;
+  read = has;
+  head = head_gone_on stood.readings stage (Says said) stood.head (subst (λ n. step_of stage [] (n + 1) (Says said) ≡ does []) (sym stood.counted) step);
+}
+
+-- a bad line ends the run
+head_stops : (before now left : Option (List ℕ)) (reader behind : LinesRead) (count : ℕ) (stage : Stage) (reading : Reading) (found : Code) (value : ℕ) (end : End)
+    (stood : IsInStage before now reader count stage) → IsInHead stage → HasRead before left behind (stood.readings ++ reading ∷ [])
+    → step_of stage [] (count + 1) reading ≡ stops found value → end ≡ ends_bad (count + 1) found value → IfSome before (λ bytes. EndsInHead bytes end)
+head_stops before now left reader behind count stage reading found value end stood head has step is =
+    IfSome_then before (goes_on_somehow before left behind (stood.readings ++ reading ∷ []) has)
+    (λ bytes on. record {
+      script = record { readings = stood.readings ++ reading ∷ on.0; over = on.1 };
+      is_script = subst (λ all. IsScript bytes (record { readings = all; over = on.1 })) (append_assoc stood.readings (reading ∷ []) on.0) on.2;
+      runs = subst (λ r. ScriptRun (record { readings = stood.readings ++ reading ∷ on.0; over = on.1 }) [] r)
+          (ended_in_head stage (ends_bad (length stood.readings + 1) found value) head
+          ∙ ap (ended_run begun []) (ap (λ n. ends_bad (n + 1) found value) stood.counted ∙ sym is))
+          (head_stopped stood.readings stage reading on.0 on.1 0 found value stood.head
+          (subst (λ n. step_of stage [] (n + 1) reading ≡ stops found value) (sym stood.counted) step)).0;
+    })
+
+-- no line is left
+head_over : (before now : Option (List ℕ)) (reader : LinesRead) (count : ℕ) (stage : Stage) (over : Bool) (end : End)
+    (stood : IsInStage before now reader count stage) → IsInHead stage → IsWhole before stood.readings over → end ≡ end_behind over stage (count + 1)
+    → IfSome before (λ bytes. EndsInHead bytes end)
+head_over before now reader count stage over end stood head whole is =
+    IfSome_then before whole
+    (λ bytes is_script. record {
+      script = record { readings = stood.readings; over = over };
+      is_script = is_script;
+      runs = subst (λ r. ScriptRun (record { readings = stood.readings; over = over }) [] r)
+          (ended_in_head stage (end_behind over stage (length stood.readings + 1)) head
+          ∙ ap (ended_run begun []) (ap (λ n. end_behind over stage (n + 1)) stood.counted ∙ sym is))
+          (head_ended stood.readings stage over 0 stood.head).0;
+    })
+
+-- what stands next ends the run
+pub next_stops : (before now left : Option (List ℕ)) (reader behind : LinesRead) (number count : ℕ) (stage : Stage) (found : Next) (stop : Stop)
+    (stood : IsInStage before now reader count stage) → IsInHead stage → number ≡ count + 1 → IsNext before left behind stood.readings found
+    → StopsBy number stage found stop → StopsInHead before stop
+next_stops before now left reader behind number count stage (next.Line reading) (Ended end) stood head numbered is how =
+    head_stops before now left reader behind count stage reading how.0 how.1 end stood head is
+    (subst (λ n. step_of stage [] n reading ≡ stops how.0 how.1) numbered how.2) (how.3 ∙ ap (λ n. ends_bad n how.0 how.1) numbered)
+next_stops before now left reader behind number count stage next.End (Ended end) stood head numbered is how =
+    head_over before now reader count stage false end stood head is.0 (how ∙ ap (end_behind false stage) numbered)
+next_stops before now left reader behind number count stage next.Limit (Ended end) stood head numbered is how =
+    head_over before now reader count stage true end stood head is (how ∙ ap (end_behind true stage) numbered)
+next_stops before now left reader behind number count stage (next.Line reading) (Fault fault) stood head numbered is how = absurd how
+next_stops before now left reader behind number count stage next.End (Fault fault) stood head numbered is how = absurd how
+next_stops before now left reader behind number count stage next.Limit (Fault fault) stood head numbered is how = absurd how
+
+-- what a line says ends the run
+pub said_stops : (before now left : Option (List ℕ)) (reader behind : LinesRead) (count : ℕ) (stage : Stage) (said : ScriptLine) (stop : Stop)
+    (stood : IsInStage before now reader count stage) → IsInHead stage → HasRead before left behind (stood.readings ++ Says said ∷ [])
+    → StopsSaying (count + 1) stage said stop → StopsInHead before stop
+said_stops before now left reader behind count stage said (Ended end) stood head has how =
+    head_stops before now left reader behind count stage (Says said) code.Head 0 end stood head has how.1 how.0
+said_stops before now left reader behind count stage said (Fault fault) stood head has how = absurd how
 
 -- what three lines make is one setting
 pub setting_of_three : (setting : Setting) (who : Who) (addresses : List (List ℕ)) (kept : Option ℕ) (first : FlightSample) → setting.registration ≡ who.registration
@@ -71,54 +132,3 @@ setting_of_three setting who addresses kept first registration flight airframe p
       kept = sym reserved i;
       first = sym sample i;
     }
-
--- the addresses that a ground line lists can be links of an aircraft
-pub ground_links : (number : ℕ) (lines : List (List ℕ)) (addresses : AddressList) (reserved : Option ℕ) (said : ScriptLine)
-    → BeginsSaying number lines said → said ≡ line.G addresses reserved → AreLinks addresses.items reserved
-ground_links number lines addresses reserved said begins is =
-    let reads : ReadsLine number begins.line (Says (line.G addresses reserved)) = subst (λ value. ReadsLine number begins.line (Says value)) is begins.reads in
-    listed reserved reads.0.says.count reads.0.says.says
-  where
-    listed : (place : Option ℕ) {fields : List (List ℕ)} → HasCount Ground (length fields) → SaysAddresses fields addresses.items place → AreLinks addresses.items place
-    listed place {fields} count says =
-        let size : length addresses.items ≡ length fields - 1 =
-        sym (ap length says.listed) ∙ length-map (drop 1 fields) (take 7) ∙ length-drop 1 fields in
-        record { some = omega (arith, size, count.0, count.1); few = omega (arith, size, count.0, count.1); listed = λ k is. inside k (subst (λ p. IsReserved fields p) is says.star) size }
-      where
-        inside : (k : ℕ) → IsReserved fields (Some k) → length addresses.items ≡ length fields - 1 → k < length addresses.items
-        inside k star size = omega (arith, star.0, size)
-
-pub two_go_on : (over : Bool) (a b c : Stage) (m n k : ℕ) (one two three : List (List ℕ)) → GoesOn over a m one b n two → GoesOn over b n two c k three → GoesOn over a m one c k three
-two_go_on over a b c m n k one two three first second run rest = first run (second run rest)
-
-pub stops_behind : (over : Bool) (a b : Stage) (m n : ℕ) (one two : List (List ℕ)) (stop : Stop) → GoesOn over a m one b n two → EndsHere over b n two stop → EndsHere over a m one stop
-stops_behind over a b m n one two (Ended end) first stops = first (ended_run begun end) stops
-stops_behind over a b m n one two NoMemory first stops = tt
-
--- the third line ends the run, behind two that go on
-pub third_stops : (over : Bool) (who : Who) (addresses : List (List ℕ)) (kept : Option ℕ) (one two three : List (List ℕ)) (stop : Stop)
-    → two ≡ drop 1 one → three ≡ drop 1 two
-    → GoesOn over begun 1 one (named who) 2 (drop 1 one) → GoesOn over (named who) 2 two (linked who addresses kept) 3 (drop 1 two)
-    → EndsHere over (linked who addresses kept) 3 three stop → EndsHere over begun 1 one stop
-third_stops over who addresses kept one two three stop second third first next stops =
-    stops_behind over begun (named who) 1 2 one (drop 1 one) stop first
-    (subst (λ ls. EndsHere over (named who) 2 ls stop) second
-    (stops_behind over (named who) (linked who addresses kept) 2 3 two (drop 1 two) stop next (subst (λ ls. EndsHere over (linked who addresses kept) 3 ls stop) third stops)))
-
--- three lines go on
-pub three_go_on : (over : Bool) (who : Who) (addresses : List (List ℕ)) (kept : Option ℕ) (first_sample : FlightSample) (one two three : List (List ℕ))
-    → two ≡ drop 1 one → three ≡ drop 1 two
-    → GoesOn over begun 1 one (named who) 2 (drop 1 one) → GoesOn over (named who) 2 two (linked who addresses kept) 3 (drop 1 two)
-    → GoesOn over (linked who addresses kept) 3 three (flying (setting_with who addresses kept first_sample)) 4 (drop 1 three)
-    → GoesOn over begun 1 one (flying (setting_with who addresses kept first_sample)) 4 (drop 3 one)
-three_go_on over who addresses kept first_sample one two three second third first next last run rest =
-    let whole : drop 3 one ≡ drop 1 three = sym (ap (drop 1) third ∙ ap (λ ls. drop 1 (drop 1 ls)) second ∙ drop_thrice one) in
-    let at_three : LinesRun over (flying (setting_with who addresses kept first_sample)) 4 (drop 1 three) run
-    = subst (λ ls. LinesRun over (flying (setting_with who addresses kept first_sample)) 4 ls run) whole rest in
-    first run (subst (λ ls. LinesRun over (named who) 2 ls run) second
-    (next run (subst (λ ls. LinesRun over (linked who addresses kept) 3 ls run) third (last run at_three))))
-  where
-    drop_thrice : (ls : List (List ℕ)) → drop 1 (drop 1 (drop 1 ls)) ≡ drop 3 ls
-    drop_thrice [] = refl
-    drop_thrice (a ∷ []) = refl
-    drop_thrice (a ∷ b ∷ ls) = refl

@@ -1,18 +1,26 @@
 //! The head of a script: its three first lines, which make the aircraft.
-ghost use Rattle.std.specs.Prelude.{◌≡◌, ◌≤◌, ℕ, List, Option, [], drop, length, IfOk, IfErr};
-ghost use Rattle.adsc_io.specs.Lines.{script_lines};
-ghost use Rattle.net_script.specs.declared.line.ScriptLine.TheVariants as line;
-ghost use Rattle.adsc_run.specs.Heads.{AreLinks, BeginsSaying, EndsHere, EndsStep, GoesOn, IsInHead};
-ghost use Rattle.adsc_run.specs.Runs.{end_behind};
-ghost use Rattle.adsc_run.specs.Steps.{Stage, begun, named, linked, flying, goes, line_step, setting_with};
+ghost use Rattle.std.specs.Prelude.{◌≡◌, ◌≢◌, ◌+◌, ◌≤◌, ℕ, List, [], ◌∷◌, ◌++◌, length, IfOk, IfErr, Err};
+ghost use Rattle.std.specs.declared.option.Option.{Option as OptionValue};
+ghost use Rattle.adsc_io.specs.Causes.{Rose};
 ghost use Rattle.aircraft_core.specs.declared.who.Who.{Who as WhoValue};
+ghost use Rattle.net_script.specs.declared.line.ScriptLine.TheVariants as line_values;
+ghost use Rattle.run_rules.specs.Stages.{Stage, begun, named, linked, flying, setting_with};
+ghost use Rattle.run_rules.specs.declared.end.End.TheVariants.{Done};
+ghost use Rattle.run_rules.specs.declared.reading.Reading.{Reading as ReadingValue};
+ghost use Rattle.run_rules.specs.declared.reading.Reading.TheVariants.{Says};
+ghost use Rattle.adsc_run.specs.Feeds.{HasRead};
+ghost use Rattle.adsc_run.specs.declared.feed.Next.TheVariants as next_values;
+ghost use Rattle.adsc_run.specs.Readable.{AreLinks, SaysRightly};
+ghost use Rattle.adsc_run.specs.UnderWay.{IsInHead, IsInStage, StopsBy, StopsInHead, StopsSaying};
 
-use crate::end::End;
-use crate::reading::{Reading, read_line};
-use adsc_io::{NoMemory, next_line};
+use crate::ending::bad_line;
+use crate::fault::RunFault;
+use crate::feed::{Feed, Next};
+use adsc_io::{NoMemory, Source};
 use aircraft_core::{Craft, Who};
-use flight_samples::{Sample, SampleReader};
-use net_script::{Addresses, BadLine, Code, ScriptLine};
+use flight_samples::Sample;
+use net_script::{Addresses, Code, ScriptLine};
+use run_rules::{End, Reading};
 use std::alloc::Global;
 
 /// Why the head makes no aircraft.
@@ -20,8 +28,8 @@ use std::alloc::Global;
 pub(crate) enum Stop {
     /// The run ends in the head.
     Ended(End),
-    /// There was not enough memory.
-    NoMemory,
+    /// The script can't be run.
+    Fault(RunFault),
 }
 
 /// The ground addresses of the second line, and the place in them of the one for which a connection is kept, if any.
@@ -32,22 +40,23 @@ pub(crate) struct GroundLinks {
 }
 
 /// The aircraft that the head makes.
-pub(crate) fn read_head(
-    samples: &mut SampleReader,
+pub(crate) fn read_head<S: Source>(
     alloc: Global,
-    lines: &[u8],
-    over: bool,
+    feed: &mut Feed,
+    source: &mut S,
 ) -> Result<Craft, Stop>
-    ensures went { IfOk result (λ craft. GoesOn over begun 1 (script_lines lines.now) (flying craft.setting) 4 (drop 3 (script_lines lines.now))) }
+    requires { (before : OptionValue (List ℕ)) × IsInStage before (S.left source.old) feed.old.lines 0 begun }
+    ensures went { IfOk result (λ craft. (before : OptionValue (List ℕ)) → IsInStage before (S.left source.old) feed.old.lines 0 (begun) → IsInStage before (S.left source.new) feed.new.lines 3 (flying craft.setting)) }
     ensures links { IfOk result (λ craft. length craft.setting.addresses ≤ 64) }
     ensures first { IfOk result (λ craft. craft.journal ≡ []) }
-    ensures ended { IfErr result (EndsHere over begun 1 (script_lines lines.now)) }
+    ensures stopped { IfErr result (λ stop. (before : OptionValue (List ℕ)) → IsInStage before (S.left source.old) feed.old.lines 0 (begun) → StopsInHead before stop) }
+    ensures undone { IfErr result (λ stop. stop ≢ Stop.Ended Done) }
+    ensures read { result ≡ Err (Stop.Fault RunFault.Read) → Rose (S.faults source.old) (S.faults source.new) }
+    ensures kept { result ≢ Err (Stop.Fault RunFault.Read) → S.faults source.new ≡ S.faults source.old }
 {
-    let who = read_who(samples, alloc, lines, over)?;
-    let second = behind_line(lines);
-    let ground = read_ground(samples, alloc, &who, second, over)?;
-    let third = behind_line(second);
-    let first = read_first(samples, alloc, third, over)?;
+    let who = read_who(feed, source)?;
+    let ground = read_ground(feed, source)?;
+    let first = read_first(feed, source)?;
     match Craft::new(
         alloc,
         who,
@@ -56,45 +65,29 @@ pub(crate) fn read_head(
         first,
     ) {
         Ok(craft) => Ok(craft),
-        Err(NoMemory) => Err(Stop::NoMemory),
-    }
-}
-
-/// The lines behind the head.
-pub(crate) fn behind_head(lines: &[u8]) -> &[u8]
-    ensures { script_lines result.now ≡ drop 3 (script_lines lines.now) }
-{
-    behind_line(behind_line(behind_line(lines)))
-}
-
-/// The lines behind the first.
-fn behind_line(lines: &[u8]) -> &[u8]
-    ensures { script_lines result.now ≡ drop 1 (script_lines lines.now) }
-{
-    match next_line(lines) {
-        Some((_, behind)) => behind,
-        None => lines,
+        Err(NoMemory) => Err(Stop::Fault(RunFault::NoMemory)),
     }
 }
 
 /// Who the aircraft of the first line is.
-fn read_who(
-    samples: &mut SampleReader,
-    alloc: Global,
-    lines: &[u8],
-    over: bool,
-) -> Result<Who, Stop>
-    ensures went { IfOk result (λ who. GoesOn over begun 1 (script_lines lines.now) (named who) 2 (drop 1 (script_lines lines.now))) }
-    ensures ended { IfErr result (EndsHere over begun 1 (script_lines lines.now)) }
+fn read_who<S: Source>(feed: &mut Feed, source: &mut S) -> Result<Who, Stop>
+    requires { (before : OptionValue (List ℕ)) × IsInStage before (S.left source.old) feed.old.lines 0 begun }
+    ensures went { IfOk result (λ who. (before : OptionValue (List ℕ)) → IsInStage before (S.left source.old) feed.old.lines 0 (begun) → IsInStage before (S.left source.new) feed.new.lines 1 (named who)) }
+    ensures stopped { IfErr result (λ stop. (before : OptionValue (List ℕ)) → IsInStage before (S.left source.old) feed.old.lines 0 (begun) → StopsInHead before stop) }
+    ensures undone { IfErr result (λ stop. stop ≢ Stop.Ended Done) }
+    ensures read { result ≡ Err (Stop.Fault RunFault.Read) → Rose (S.faults source.old) (S.faults source.new) }
+    ensures kept { result ≢ Err (Stop.Fault RunFault.Read) → S.faults source.new ≡ S.faults source.old }
 {
-    let said = read_said(samples, alloc, 1, lines, over)?;
+    let said = read_said(1, feed, source)?;
     who_said(said)
 }
 
 /// Who the aircraft is, where the line says it.
 fn who_said(said: ScriptLine) -> Result<Who, Stop>
-    ensures went { IfOk result (λ who. line_step begun 1 said ≡ goes (named who) [] []) }
-    ensures ended { IfErr result (EndsStep (line_step begun 1 said)) }
+    ensures unread { result ≢ Err (Stop.Fault RunFault.Read) }
+    ensures undone { IfErr result (λ stop. stop ≢ Stop.Ended Done) }
+    ensures said { IfOk result (λ who. said ≡ line_values.A who) }
+    ensures stopped { IfErr result (StopsSaying 1 begun said) }
 {
     if let ScriptLine::A(who) = said {
         return Ok(who);
@@ -103,26 +96,25 @@ fn who_said(said: ScriptLine) -> Result<Who, Stop>
 }
 
 /// The ground addresses of the second line.
-fn read_ground(
-    samples: &mut SampleReader,
-    alloc: Global,
-    who: &Who,
-    lines: &[u8],
-    over: bool,
-) -> Result<GroundLinks, Stop>
-    ensures went { IfOk result (λ ground. GoesOn over (named who.now) 2 (script_lines lines.now)
-        (linked who.now ground.addresses.items ground.reserved) 3 (drop 1 (script_lines lines.now))) }
+fn read_ground<S: Source>(feed: &mut Feed, source: &mut S) -> Result<GroundLinks, Stop>
+    requires { (before : OptionValue (List ℕ)) × (who : WhoValue) × IsInStage before (S.left source.old) feed.old.lines 1 (named who) }
+    ensures went { IfOk result (λ ground. (before : OptionValue (List ℕ)) (who : WhoValue) → IsInStage before (S.left source.old) feed.old.lines 1 (named who) → IsInStage before (S.left source.new) feed.new.lines 2 (linked who ground.addresses.items ground.reserved)) }
     ensures links { IfOk result (λ ground. AreLinks ground.addresses.items ground.reserved) }
-    ensures ended { IfErr result (EndsHere over (named who.now) 2 (script_lines lines.now)) }
+    ensures stopped { IfErr result (λ stop. (before : OptionValue (List ℕ)) (who : WhoValue) → IsInStage before (S.left source.old) feed.old.lines 1 (named who) → StopsInHead before stop) }
+    ensures undone { IfErr result (λ stop. stop ≢ Stop.Ended Done) }
+    ensures read { result ≡ Err (Stop.Fault RunFault.Read) → Rose (S.faults source.old) (S.faults source.new) }
+    ensures kept { result ≢ Err (Stop.Fault RunFault.Read) → S.faults source.new ≡ S.faults source.old }
 {
-    let said = read_said(samples, alloc, 2, lines, over)?;
+    let said = read_said(2, feed, source)?;
     ground_said(said)
 }
 
 /// The ground addresses, where the line says them.
 fn ground_said(said: ScriptLine) -> Result<GroundLinks, Stop>
-    ensures said { IfOk result (λ ground. said ≡ line.G ground.addresses ground.reserved) }
-    ensures ended { IfErr result (λ stop. (who : WhoValue) → EndsStep (line_step (named who) 2 said) stop) }
+    ensures unread { result ≢ Err (Stop.Fault RunFault.Read) }
+    ensures undone { IfErr result (λ stop. stop ≢ Stop.Ended Done) }
+    ensures said { IfOk result (λ ground. said ≡ line_values.G ground.addresses ground.reserved) }
+    ensures stopped { IfErr result (λ stop. (who : WhoValue) → StopsSaying 2 (named who) said stop) }
 {
     match said {
         ScriptLine::G {
@@ -137,28 +129,28 @@ fn ground_said(said: ScriptLine) -> Result<GroundLinks, Stop>
 }
 
 /// The first sample, of the third line.
-fn read_first(
-    samples: &mut SampleReader,
-    alloc: Global,
-    lines: &[u8],
-    over: bool,
-) -> Result<Sample, Stop>
-    ensures went { IfOk result (λ first. (who : WhoValue) (addresses : List (List ℕ)) (kept : Option ℕ)
-        → GoesOn over (linked who addresses kept) 3 (script_lines lines.now)
-        (flying (setting_with who addresses kept first)) 4 (drop 1 (script_lines lines.now))) }
-    ensures ended { IfErr result (λ stop. (who : WhoValue) (addresses : List (List ℕ)) (kept : Option ℕ)
-        → EndsHere over (linked who addresses kept) 3 (script_lines lines.now) stop) }
+fn read_first<S: Source>(feed: &mut Feed, source: &mut S) -> Result<Sample, Stop>
+    requires { (before : OptionValue (List ℕ)) × (who : WhoValue) × (addresses : List (List ℕ)) × (kept : OptionValue ℕ)
+        × IsInStage before (S.left source.old) feed.old.lines 2 (linked who addresses kept) }
+    ensures went { IfOk result (λ first. (before : OptionValue (List ℕ)) (who : WhoValue) (addresses : List (List ℕ)) (kept : OptionValue ℕ)
+        → IsInStage before (S.left source.old) feed.old.lines 2 (linked who addresses kept) → IsInStage before (S.left source.new) feed.new.lines 3 (flying (setting_with who addresses kept first))) }
+    ensures stopped { IfErr result (λ stop. (before : OptionValue (List ℕ)) (who : WhoValue) (addresses : List (List ℕ)) (kept : OptionValue ℕ)
+        → IsInStage before (S.left source.old) feed.old.lines 2 (linked who addresses kept) → StopsInHead before stop) }
+    ensures undone { IfErr result (λ stop. stop ≢ Stop.Ended Done) }
+    ensures read { result ≡ Err (Stop.Fault RunFault.Read) → Rose (S.faults source.old) (S.faults source.new) }
+    ensures kept { result ≢ Err (Stop.Fault RunFault.Read) → S.faults source.new ≡ S.faults source.old }
 {
-    let said = read_said(samples, alloc, 3, lines, over)?;
+    let said = read_said(3, feed, source)?;
     sample_said(said)
 }
 
 /// The sample, where the line says one.
 fn sample_said(said: ScriptLine) -> Result<Sample, Stop>
-    ensures went { IfOk result (λ first. (who : WhoValue) (addresses : List (List ℕ)) (kept : Option ℕ)
-        → line_step (linked who addresses kept) 3 said ≡ goes (flying (setting_with who addresses kept first)) [] []) }
-    ensures ended { IfErr result (λ stop. (who : WhoValue) (addresses : List (List ℕ)) (kept : Option ℕ)
-        → EndsStep (line_step (linked who addresses kept) 3 said) stop) }
+    ensures unread { result ≢ Err (Stop.Fault RunFault.Read) }
+    ensures undone { IfErr result (λ stop. stop ≢ Stop.Ended Done) }
+    ensures said { IfOk result (λ first. said ≡ line_values.S first) }
+    ensures stopped { IfErr result (λ stop. (who : WhoValue) (addresses : List (List ℕ)) (kept : OptionValue ℕ)
+        → StopsSaying 3 (linked who addresses kept) said stop) }
 {
     match said {
         ScriptLine::S(sample) => Ok(sample),
@@ -166,42 +158,48 @@ fn sample_said(said: ScriptLine) -> Result<Sample, Stop>
     }
 }
 
-/// What the first of these lines says, which has this number in the head.
-fn read_said(
-    samples: &mut SampleReader,
-    alloc: Global,
-    number: u32,
-    lines: &[u8],
-    over: bool,
-) -> Result<ScriptLine, Stop>
-    ensures said { IfOk result (BeginsSaying number (script_lines lines.now)) }
-    ensures ended { IfErr result (λ stop. (stage : Stage) → IsInHead stage → EndsHere over stage number (script_lines lines.now) stop) }
+/// What the next line says, which has this number in the head.
+fn read_said<S: Source>(number: u32, feed: &mut Feed, source: &mut S) -> Result<ScriptLine, Stop>
+    requires { (before : OptionValue (List ℕ)) × (readings : List ReadingValue) × HasRead before (S.left source.old) feed.old.lines readings }
+    ensures said { IfOk result (λ said. (before : OptionValue (List ℕ)) (readings : List ReadingValue)
+        → HasRead before (S.left source.old) feed.old.lines readings → HasRead before (S.left source.new) feed.new.lines (readings ++ Says said ∷ [])) }
+    ensures rightly { IfOk result SaysRightly }
+    ensures stopped { IfErr result (λ stop. (before : OptionValue (List ℕ)) (count : ℕ) (stage : Stage) → IsInHead stage → number ≡ count + 1
+        → IsInStage before (S.left source.old) feed.old.lines count (stage) → StopsInHead before stop) }
+    ensures undone { IfErr result (λ stop. stop ≢ Stop.Ended Done) }
+    ensures read { result ≡ Err (Stop.Fault RunFault.Read) → Rose (S.faults source.old) (S.faults source.new) }
+    ensures kept { result ≢ Err (Stop.Fault RunFault.Read) → S.faults source.new ≡ S.faults source.old }
 {
-    let Some((line, _)) = next_line(lines) else {
-        return Err(Stop::Ended(end_in_head(over, number)));
-    };
-    match read_line(samples, alloc, number, line) {
-        Ok(Reading::Says(said)) => Ok(said),
-        Ok(Reading::Bad { code, value }) => Err(Stop::Ended(bad_line(number, code, value))),
-        Ok(Reading::Brings(_)) => Err(Stop::Ended(bad_line(number, Code::Head, 0))),
-        Err(NoMemory) => Err(Stop::NoMemory),
+    match feed.next(source) {
+        Ok(next) => said_in(number, next),
+        Err(fault) => Err(Stop::Fault(fault)),
     }
 }
 
-/// How a run ends whose line of this number isn't there, in the head.
-fn end_in_head(over: bool, number: u32) -> End
-    ensures { (stage : Stage) → IsInHead stage → result ≡ end_behind over stage number }
+/// What the line of this number in the head says, if it stands next and says something.
+fn said_in(number: u32, next: Next) -> Result<ScriptLine, Stop>
+    ensures unread { result ≢ Err (Stop.Fault RunFault.Read) }
+    ensures undone { IfErr result (λ stop. stop ≢ Stop.Ended Done) }
+    ensures said { IfOk result (λ said. next ≡ next_values.Line (Says said)) }
+    ensures stopped { IfErr result (λ stop. (stage : Stage) → IsInHead stage → StopsBy number stage next stop) }
 {
-    if over {
-        End::Limit { line: number }
-    } else {
-        bad_line(number, Code::Head, 0)
+    match next {
+        Next::Line(reading) => said_by(number, reading),
+        Next::End => Err(Stop::Ended(bad_line(number, Code::Head, 0))),
+        Next::Limit => Err(Stop::Ended(End::Limit { line: number })),
     }
 }
 
-/// The end of a run at a bad line.
-pub(crate) fn bad_line(line: u32, code: Code, value: u32) -> End
-    ensures { result ≡ End.Bad (record { line = line; code = code; value = value }) }
+/// What a line of the head says that is read so.
+fn said_by(number: u32, reading: Reading) -> Result<ScriptLine, Stop>
+    ensures unread { result ≢ Err (Stop.Fault RunFault.Read) }
+    ensures undone { IfErr result (λ stop. stop ≢ Stop.Ended Done) }
+    ensures said { IfOk result (λ said. reading ≡ Says said) }
+    ensures stopped { IfErr result (λ stop. (stage : Stage) → IsInHead stage → StopsBy number stage (next_values.Line reading) stop) }
 {
-    End::Bad(BadLine { line, code, value })
+    match reading {
+        Reading::Says(said) => Ok(said),
+        Reading::Bad { code, value } => Err(Stop::Ended(bad_line(number, code, value))),
+        Reading::Brings(_) => Err(Stop::Ended(bad_line(number, Code::Head, 0))),
+    }
 }

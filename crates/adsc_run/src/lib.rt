@@ -1,39 +1,49 @@
-//! The run of a script: its lines are judged in order and carried out, up to the end or to the first that is bad.
+//! The run of a script: its lines are read one by one, judged and carried out, up to the end or to the first that is bad, and what
+//! comes of it is written.
 //!
-//! The first three lines say who the aircraft is, its ground addresses and its first flight sample. From then on an aircraft
-//! (`aircraft_core::Craft`) flies: samples and taken uplinks are entries of its journal, and its downlinks are those that the
-//! contract rules make due. A text from the ground that isn't taken is refused with its cause, a malformed payload is entered
-//! and refused besides, and the first bad line ends the run. [`run_script`] reads a source and answers the [`Outcome`];
-//! [`outcome_text`] spells it out. Scripts, outputs and limits are this project's profile.
+//! [`run_script`] reads a line, judges it and carries it out before it reads the next: the aircraft takes texts, samples, ticks and
+//! acts of the crew, and the centres of its links ask, cancel and hear. The entries of a burst of `U` and `B` lines are entered before
+//! the next other line, by workers on threads of their own. Its answer is the [`Outcome`], and [`write_outcome`] writes that out and
+//! takes no memory. Both are promised in the words of `run_rules`: the outcome is that of the script under an order that so many
+//! workers may take. Scripts and outputs are this project's profile.
 //!
-//! Below stand the crates that read lines, texts and payloads, and the aircraft; above stands the bench with its commands.
-//! Begin with `specs/Readings.antt` (what a line says), `specs/Steps.antt` (what it does) and `specs/Runs.antt` (the run), then
-//! `specs/Output.antt`; the code goes the same way: `reading`, `head` and `flight`, `run`, `output`.
+//! Below stand the definitions of runs, the readers of lines and texts, the aircraft and the centre; above stands the bench with its
+//! commands. Begin with `specs/Outcomes.antt` (what is promised) and `run`; then `feed` (the next line), `head` (the first three
+//! lines), `course`, `lines`, `texts` and `centres` (what a line does), `station` (a centre on its link), `burst`, `lists` and `workers`
+//! (how a burst is entered, on threads over the craft that `link_threads` shares), and `output`.
 #![tactic(auto)]
 
-#[cfg(test)]
-mod contract_tests;
-mod end;
-mod flight;
+mod burst;
+mod carried;
+mod centres;
+mod course;
+mod ending;
+mod fault;
+mod feed;
+mod gate;
 mod head;
-mod laws;
+mod lines;
+mod links;
+mod lists;
+mod outbox;
 mod outcome;
 mod output;
+#[cfg(test)]
+mod output_tests;
 mod placed;
 mod reading;
-#[cfg(test)]
-mod reading_tests;
-mod refused;
 mod run;
+mod station;
+mod stations;
+mod texts;
 #[cfg(test)]
-mod run_tests;
+mod worker_tests;
+mod workers;
 
-pub use end::End;
-pub use laws::{
-    a_line_has_one_reading, a_script_has_one_output, a_script_has_one_run, each_script_has_a_run,
-};
-pub use outcome::Outcome;
-pub use output::outcome_text;
-pub use reading::{Reading, read_line};
-pub use refused::{RefusedLine, RefusedWhy};
-pub use run::{RunFault, run_script};
+pub use fault::RunFault;
+pub use gate::{Free, Gate};
+pub use outcome::{CentreRow, Outcome};
+pub use output::write_outcome;
+pub use reading::read_line;
+pub use run::run_script;
+pub use run_rules::{End, RefusedLine, RefusedWhy};

@@ -2,7 +2,7 @@
 
 ghost use Rattle.std.specs.Prelude.{◌≡◌, Some, None, IfSome, IfNone};
 ghost use Rattle.net_script.specs.declared.refusal.Code.{Code as CodeValue};
-ghost use Rattle.adsc_run.specs.Places.{IsInPlace, IsMisplaced, IsMisplacedBy, head_letter};
+ghost use Rattle.run_rules.specs.Places.{IsInPlace, IsMisplaced, IsMisplacedBy, head_letter};
 
 use net_script::{Code, Letter, has_letter};
 

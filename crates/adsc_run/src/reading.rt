@@ -3,31 +3,16 @@
 ghost use Rattle.std.specs.Prelude.{◌≡◌, ℕ, ◌≤◌, length, drop, IfOk};
 ghost use Rattle.adsc_io.specs.Limits.{max_line_bytes};
 ghost use Rattle.adsc_io.specs.Lines.{IsUnbroken};
-ghost use Rattle.adsc_run.specs.Places.{IsInPlace};
-ghost use Rattle.adsc_run.specs.Readings.{ReadsLine};
+ghost use Rattle.run_rules.specs.Places.{IsInPlace};
+ghost use Rattle.run_rules.specs.Readings.{ReadsLine};
 
 use crate::placed::misplaced;
 use adsc_io::{MAX_LINE_BYTES, NoMemory};
 use flight_samples::SampleReader;
-use ground_texts::{GroundText, read_ground_text};
+use ground_texts::read_ground_text;
 use net_script::{Code, LineRefusal, ScriptLine, read_script_line};
+use run_rules::Reading;
 use std::alloc::Global;
-
-/// What a line of a script says at its place, or why it is bad. The script language is this project's profile.
-#[derive(Debug, Drop, PartialEq, Eq)]
-pub enum Reading {
-    /// The line is bad.
-    Bad {
-        /// What is wrong with it.
-        code: Code,
-        /// The value that belongs to the code.
-        value: u32,
-    },
-    /// A right line of any letter but `U`.
-    Says(ScriptLine),
-    /// A `U` line, with what its text says.
-    Brings(GroundText),
-}
 
 /// Reads the line of this number, counted from 1: what it says, or why it is bad.
 ///
@@ -45,7 +30,6 @@ pub enum Reading {
 /// EUROCAE ED-100A.
 ///
 /// `samples` reads the columns of sample lines; one serves all lines of a run.
-#[inline(always)]
 pub fn read_line(
     samples: &mut SampleReader,
     alloc: Global,
@@ -68,7 +52,6 @@ pub fn read_line(
 }
 
 /// What a line says that isn't too long and stands where it may, or the first fault of its form.
-#[inline(always)]
 fn read_placed(samples: &mut SampleReader, alloc: Global, line: &[u8]) -> Result<Reading, NoMemory>
     requires size { length line.now ≤ max_line_bytes }
     requires unbroken { IsUnbroken line.now }

@@ -10,11 +10,13 @@
 //! `contract_rules`, at the acts that the entries are; the items that are due on a link at one
 //! entry make one downlink, and a logon makes one, its contact.
 //!
-//! The run of a script (`adsc_run`) stands above. Begin with `specs/Downlinks.antt`, which says
-//! what is due, `specs/JournalActs.antt`, which says what the acts of a journal are, and
-//! `specs/LogonStates.antt`; then read `craft`. `taking` has what an entry does, `links` how what is
-//! due is sent link by link, `items`, `reports` and `groups` have the items, `downlink` and `outbox`
-//! their text, `logons` the contacts and the logons. `laws` has the laws of the definitions.
+//! Above stand the aircraft shared by threads (`link_threads`) and the run of a script
+//! (`run_rules`, `adsc_run`). Begin with `specs/Downlinks.antt`, which says what is due,
+//! `specs/JournalActs.antt`, which says what the acts of a journal are, and
+//! `specs/LogonStates.antt`; then read `craft`. `taking` has what an entry does, `links` how
+//! what is due is sent link by link, `items`, `reports` and `groups` have the items, `downlink`
+//! and `outbox` their text, `logons` the contacts and the logons. `laws` has the laws of the
+//! definitions.
 #![tactic(auto)]
 
 mod craft;

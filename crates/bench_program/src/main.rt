@@ -2,7 +2,7 @@
 //! call of `adsc_bench`, and ends with the number of the status.
 #![tactic(auto)]
 
-use adsc_bench::{Status, top};
+use adsc_bench::{Free, Status, top};
 use adsc_io::{StdSink, StdSource};
 use std::alloc::AllocGlobal;
 use std::env::{self, Env};
@@ -16,7 +16,14 @@ fn main(rt: HostRuntime) -> ExitCode {
     };
     let mut source = StdSource::new(rt.stdin());
     let mut sink = StdSink::new(rt.stdout());
-    let status = top(rt.alloc(), words.as_slice(), &mut source, &mut sink);
+    let status = top(
+        &rt,
+        rt.alloc(),
+        words.as_slice(),
+        &mut source,
+        &mut sink,
+        &Free,
+    );
     ExitCode::from(status.number())
 }
 

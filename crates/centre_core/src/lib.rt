@@ -8,11 +8,11 @@
 //! looking back over the events at the centre, whatever was lost, repeated or brought late on the
 //! way.
 //!
-//! It is for whoever writes a ground system, and the definitions of a run (`run_rules`) stand on it. Begin with
-//! `specs/Events.antt` and `specs/Rows.antt`, which define the row of a kind, and
-//! `specs/Histories.antt`, which says when a centre stands for a history; then read [`Centre`].
-//! `specs/Hearing.antt` says what a text says to a centre, and `src/laws.rt` has the laws of the
-//! definitions.
+//! It is for whoever writes a ground system; above stand the definitions of a run (`run_rules`)
+//! and the run itself (`adsc_run`). Begin with `specs/Events.antt` and `specs/Rows.antt`, which
+//! define the row of a kind, and `specs/Histories.antt`, which says when a centre stands for a
+//! history; then read [`Centre`]. `specs/Hearing.antt` says what a text says to a centre, and
+//! `src/laws.rt` has the laws of the definitions.
 #![tactic(auto)]
 
 mod answer;

@@ -3,7 +3,7 @@
 //! A bench is tried with scripts of many lines, more than anyone wants to store. This crate makes such a script from a number and a count
 //! of lines, the same at each call and on each machine: samples, times, the crew's emergency acts and texts from five ground addresses,
 //! well-formed payloads and malformed ones, as the draws of a linear congruential generator give them. Each line is right, so that the
-//! whole script runs. No command stands on it yet.
+//! whole script runs. The command `make` of `adsc_bench` stands above.
 //!
 //! Begin with `specs/Draws.antt` (the generator), `specs/Generator.antt` (which line which draws give) and `specs/Texts.antt` (its text);
 //! then read [`generate_script`]. `specs/Summaries.antt` says what the summary of a run is, which [`summarize`] writes, and `src/laws.rt` has the

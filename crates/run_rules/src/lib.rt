@@ -7,10 +7,10 @@
 //! journal, so only there the order is seen. The crate has no code but the types that the definitions speak of. Scripts, orders and
 //! outputs are this project's profile.
 //!
-//! Below stand the definitions of script lines, texts, the aircraft and the centre; above stands `generated_scripts`, whose laws cite
-//! these. `adsc_run` still has definitions of its own, for one worker and without centres. Begin with `specs/Happenings.antt` (what
-//! happens), `specs/Lines.antt` and `specs/Texts.antt` (what a line does), `specs/Runs.antt` (the run) and `specs/Orders.antt` (allowed
-//! orders); then `specs/Output.antt`, `specs/Claims.antt` (confirmed, accepted, reused too early) and `src/laws.rt`.
+//! Below stand the definitions of script lines, texts, the aircraft and the centre; above stands `adsc_run`, whose contracts cite
+//! these. Begin with `specs/Happenings.antt` (what happens), `specs/Lines.antt` and `specs/Texts.antt` (what a line does),
+//! `specs/Runs.antt` (the run) and `specs/Orders.antt` (allowed orders); then `specs/Output.antt`, `specs/Claims.antt` (confirmed,
+//! accepted, reused too early) and `src/laws.rt`.
 #![tactic(auto)]
 
 mod end;

@@ -1,16 +1,29 @@
+use Rattle.std.proofs.Common.{◌≡◌, Err, refl, subst, rules, ℕ, List, Option}
 use Rattle.std.proofs.lemmas.Result.{IfErr-weaker, IfOk-weaker}
-use Rattle.adsc_run.specs.Steps.{linked, flying, setting_with}
-use Rattle.adsc_run.proofs.HeadLaws.{said_goes_on, stops_here}
+use Rattle.aircraft_core.specs.declared.who.Who.{Who}
+use Rattle.run_rules.specs.Stages.{linked, stage_behind}
+use Rattle.adsc_run.specs.UnderWay.{IsInStage, StopsInHead}
+use Rattle.adsc_run.proofs.HeadLaws.{said_stops, says_on}
 use Rattle.adsc_run.proofs.head.read_first.Goals as goal
 
-pub returns-clause-went : goal.returns-clause-went
-returns-clause-went c =
-    IfOk-weaker c.sample_said.result _ _
-    (λ first step who addresses kept. said_goes_on c.args.over (linked who addresses kept) (flying (setting_with who addresses kept first)) 3 _ _ c.in_ok-said.ensures.said
-    (step who addresses kept))
-    c.sample_said.ensures.went
+pub read_said-requires : goal.read_said-requires
+read_said-requires g c = (c.requires.0, c.requires.4.readings, c.requires.4.read)
 
-pub returns-clause-ended : goal.returns-clause-ended
-returns-clause-ended c =
+pub returns-clause-went : goal.returns-clause-went
+returns-clause-went g c =
+    IfOk-weaker c.sample_said.result _ _
+    (λ first is before who addresses kept stood. subst (λ said. IsInStage before (g.S.Source.left c.read_said.new.source) c.read_said.new.feed.lines 3 (stage_behind (linked who addresses kept) said)) is
+    (says_on before _ _ _ _ 2 (linked who addresses kept) _ stood (c.in_ok-said.ensures.said before stood.readings stood.read) (rw (is) refl)))
+    c.sample_said.ensures.said
+
+pub returns-clause-stopped : goal.returns-clause-stopped
+returns-clause-stopped g c =
     IfErr-weaker c.sample_said.result _ _
-    (λ stop step who addresses kept. stops_here c.args.over (linked who addresses kept) 3 _ _ stop c.in_ok-said.ensures.said tt (step who addresses kept)) c.sample_said.ensures.ended
+    (λ stop stops before who addresses kept stood.
+    said_stops before _ _ _ _ 2 (linked who addresses kept) _ stop stood tt (c.in_ok-said.ensures.said before stood.readings stood.read) (stops who addresses kept))
+    c.sample_said.ensures.stopped
+
+pub returns-in_err-said-clause-stopped : goal.returns-in_err-said-clause-stopped
+returns-in_err-said-clause-stopped g c =
+    let answered : c.from_residual.result ≡ Err c.in_err-said.field-0.0 = search rules in
+    rw (answered) (λ before who addresses kept stood. c.in_err-said.ensures.stopped before 2 (linked who addresses kept) tt refl stood)

@@ -1,24 +1,33 @@
-use Rattle.std.proofs.Common.{[], rules, subst, sym, ap, refl}
+use Rattle.std.proofs.Common.{◌≡◌, Err, refl, subst, rules, ℕ, List, Option}
 use Rattle.std.proofs.lemmas.Result.{IfErr-weaker, IfOk-weaker}
-use Rattle.adsc_run.specs.Steps.{named, linked, goes, line_step}
-use Rattle.adsc_run.proofs.HeadLaws.{ground_links, said_goes_on, stops_here}
+use Rattle.aircraft_core.specs.declared.who.Who.{Who}
+use Rattle.run_rules.specs.Stages.{named, stage_behind}
+use Rattle.adsc_run.specs.Readable.{SaysRightly}
+use Rattle.adsc_run.specs.UnderWay.{IsInStage, StopsInHead}
+use Rattle.adsc_run.proofs.HeadLaws.{said_stops, says_on}
 use Rattle.adsc_run.proofs.head.read_ground.Goals as goal
 
-pub returns-in_err-said-clause-ended : goal.returns-in_err-said-clause-ended
-returns-in_err-said-clause-ended c = let here = c.in_err-said.ensures.ended (named c.args.who.now) tt in search rules
+pub read_said-requires : goal.read_said-requires
+read_said-requires g c = (c.requires.0, c.requires.2.readings, c.requires.2.read)
 
 pub returns-clause-went : goal.returns-clause-went
-returns-clause-went c =
+returns-clause-went g c =
     IfOk-weaker c.ground_said.result _ _
-    (λ ground is. said_goes_on c.args.over (named c.args.who.now) (linked c.args.who.now ground.addresses.items ground.reserved) 2 _ _ c.in_ok-said.ensures.said
-    (ap (line_step (named c.args.who.now) 2) is))
+    (λ ground is before who stood. subst (λ said. IsInStage before (g.S.Source.left c.read_said.new.source) c.read_said.new.feed.lines 2 (stage_behind (named who) said)) is
+    (says_on before _ _ _ _ 1 (named who) _ stood (c.in_ok-said.ensures.said before stood.readings stood.read) (rw (is) refl)))
     c.ground_said.ensures.said
 
 pub returns-clause-links : goal.returns-clause-links
-returns-clause-links c =
-    IfOk-weaker c.ground_said.result _ _ (λ ground is. ground_links 2 _ ground.addresses ground.reserved _ c.in_ok-said.ensures.said is) c.ground_said.ensures.said
+returns-clause-links g c =
+    IfOk-weaker c.ground_said.result _ _ (λ ground is. subst SaysRightly is c.in_ok-said.ensures.rightly) c.ground_said.ensures.said
 
-pub returns-clause-ended : goal.returns-clause-ended
-returns-clause-ended c =
+pub returns-clause-stopped : goal.returns-clause-stopped
+returns-clause-stopped g c =
     IfErr-weaker c.ground_said.result _ _
-    (λ stop step. stops_here c.args.over (named c.args.who.now) 2 _ _ stop c.in_ok-said.ensures.said tt (step c.args.who.now)) c.ground_said.ensures.ended
+    (λ stop stops before who stood. said_stops before _ _ _ _ 1 (named who) _ stop stood tt (c.in_ok-said.ensures.said before stood.readings stood.read) (stops who))
+    c.ground_said.ensures.stopped
+
+pub returns-in_err-said-clause-stopped : goal.returns-in_err-said-clause-stopped
+returns-in_err-said-clause-stopped g c =
+    let answered : c.from_residual.result ≡ Err c.in_err-said.field-0.0 = search rules in
+    rw (answered) (λ before who stood. c.in_err-said.ensures.stopped before 1 (named who) tt refl stood)

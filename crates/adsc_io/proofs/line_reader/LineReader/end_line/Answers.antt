@@ -1,4 +1,4 @@
-use Rattle.std.proofs.Common.{◌≡◌, sym, take, drop, arith, true, ◌∙◌, inl, inr, ◌⊎◌, ◌≤◌, ◌<◌, ◌+◌}
+use Rattle.std.proofs.Common.{sym, take, drop, arith}
 use Rattle.std.proofs.lemmas.List.{length-drop, length-take-le, take-append-drop}
 use Rattle.adsc_io.proofs.ReaderLaws.{answers_ended, answers_limit, within_both}
 use Rattle.adsc_io.proofs.line_reader.LineReader.end_line.Goals as goal

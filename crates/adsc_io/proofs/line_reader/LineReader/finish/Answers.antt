@@ -1,4 +1,4 @@
-use Rattle.std.proofs.Common.{◌≡◌, ap, sym, ◌∙◌, arith}
+use Rattle.std.proofs.Common.{ap, sym, ◌∙◌, arith}
 use Rattle.adsc_io.specs.Readers.{LinesRead}
 use Rattle.adsc_io.proofs.ReaderLaws.{answers_end, answers_last}
 use Rattle.adsc_io.proofs.line_reader.LineReader.finish.Goals as goal

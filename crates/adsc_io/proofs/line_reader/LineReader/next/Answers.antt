@@ -1,4 +1,4 @@
-use Rattle.std.proofs.Common.{◌≡◌, ap, sym, ◌∙◌, subst, refl, arith, length, Ok, true, false}
+use Rattle.std.proofs.Common.{ap, sym, ◌∙◌, subst, refl}
 use Rattle.adsc_io.specs.Readers.{IsReady, LinesRead}
 use Rattle.adsc_io.proofs.ReaderLaws.{HasTaken, nearer, reads_fault_behind, reads_line, taken_nothing, taken_piece}
 use Rattle.adsc_io.proofs.line_reader.LineReader.next.Goals as goal

@@ -1,6 +1,4 @@
-use Rattle.std.proofs.Common.{◌≡◌, ℕ, ◌+◌, ◌-◌, List, [], ◌++◌, false, IsTrue, length}
-use Rattle.std.specs.Io.KnownBytes.{Consumes, IsAtEnd}
-use Rattle.adsc_io.specs.Readers.{IsReady, StandsIn}
+use Rattle.std.proofs.Common.{◌≡◌, ◌+◌, ◌-◌, length}
 use Rattle.adsc_io.specs.declared.limits.TheConstants.{MAX_SCRIPT_BYTES}
 use Rattle.adsc_io.proofs.ReaderLaws.{HasTaken}
 use Rattle.adsc_io.proofs.line_reader.LineReader.next.Given as goal

@@ -1,4 +1,4 @@
-use Rattle.std.proofs.Common.{◌≡◌, ◌-◌, ap, arith, length, drop}
+use Rattle.std.proofs.Common.{◌-◌, ap, arith, length, drop}
 use Rattle.std.proofs.lemmas.List.{length-take}
 use Rattle.adsc_io.specs.Readers.{LinesRead}
 use Rattle.adsc_io.proofs.ReaderLaws.{held_behind, same_held}

@@ -1,8 +1,0 @@
-use Rattle.std.proofs.Common.{◌≡◌, drop}
-use Rattle.adsc_run.specs.Steps.{link_from}
-use Rattle.adsc_run.proofs.flight.link_to.Given as goal
-
--- the address is none of those so far
-abbrev pub invariant-loop-link : goal.invariant-loop-link
-invariant-loop-link l =
-    link_from l.link (drop l.link l.craft.setting.addresses) l.address ≡ link_from 0 l.craft.setting.addresses l.address

@@ -1,0 +1,71 @@
+//! The lines of the flight, and where each line goes.
+ghost use Rattle.std.specs.Prelude.{◌≡◌, ◌≢◌, ◌+◌, ◌-◌, ◌<◌, ◌≤◌, ℕ, List, [], ◌∷◌, ◌++◌, All, true, false, length, IfOk, IfErr, OnOk, None, Some, slice_get};
+ghost use Rattle.run_rules.specs.Happenings.{Happening};
+ghost use Rattle.adsc_run.specs.Courses.{Did, StandsBehind};
+ghost use Rattle.net_script.specs.declared.line.ScriptLine.TheVariants as line_values;
+ghost use Rattle.run_rules.specs.Lines.{flight_step, step_of};
+ghost use Rattle.run_rules.specs.Orders.{is_burst_line};
+ghost use Rattle.run_rules.specs.Stages.{flying};
+ghost use Rattle.run_rules.specs.declared.reading.Reading.TheVariants.{Says};
+ghost use Rattle.adsc_run.specs.Readable.{IsReadable, SaysRightly};
+
+use crate::course::Course;
+use crate::ending::bad_line;
+use crate::links::link_to;
+use acars_envelope::Address;
+use adsc_io::NoMemory;
+use aircraft_core::Entry;
+use net_script::{Code, ScriptLine};
+use run_rules::{End, Reading};
+
+impl Course {
+    /// Carries out the line of this number, which was read so; answers how the run ends with it, if it does.
+    pub(crate) fn take(&mut self, line: u32, reading: Reading) -> Result<Option<End>, NoMemory>
+        requires few { length self.old.craft.setting.addresses ≤ 64 }
+        requires count { length self.old.stations.items ≡ length self.old.craft.setting.addresses }
+        requires readable { IsReadable reading }
+        ensures { (log : List Happening) → StandsBehind self.old log → IfOk result (Did (is_burst_line (Some reading)) (step_of (flying self.old.craft.setting) log line reading) line log self.old self.new) }
+    {
+        match reading {
+            Reading::Bad { code, value } => Ok(Some(bad_line(line, code, value))),
+            Reading::Says(value) => self.take_value(line, &value),
+            Reading::Brings(text) => self.take_text(line, text),
+        }
+    }
+
+    /// Carries out a line without a text: a row for each letter.
+    fn take_value(&mut self, line: u32, value: &ScriptLine) -> Result<Option<End>, NoMemory>
+        requires few { length self.old.craft.setting.addresses ≤ 64 }
+        requires count { length self.old.stations.items ≡ length self.old.craft.setting.addresses }
+        requires readable { SaysRightly value.now }
+        ensures { (log : List Happening) → StandsBehind self.old log → IfOk result (Did (is_burst_line (Some (Says value.now))) (flight_step self.old.craft.setting log line value.now) line log self.old self.new) }
+    {
+        match value {
+            ScriptLine::S(sample) => self.enter(Entry::Sample {
+                line,
+                sample: *sample,
+            }),
+            ScriptLine::T(t) => self.enter(Entry::Tick { line, t: *t }),
+            ScriptLine::E(on) => self.enter(Entry::Crew { line, on: *on }),
+            ScriptLine::L(address) => self.log_on(line, *address),
+            ScriptLine::C(address, request) => self.ask(line, *address, request),
+            ScriptLine::K(address, cancel) => self.cancel(line, *address, *cancel),
+            ScriptLine::B(address, place) => self.bring(line, *address, *place),
+            ScriptLine::R(address, place) => self.receive(line, *address, *place),
+            ScriptLine::A(_) => Ok(Some(bad_line(line, Code::Kind, 0))),
+            ScriptLine::G { .. } => Ok(Some(bad_line(line, Code::Kind, 0))),
+            ScriptLine::U { .. } => Ok(Some(bad_line(line, Code::Kind, 0))),
+        }
+    }
+
+    /// Logs on to the facility at this address, or says that it isn't listed.
+    fn log_on(&mut self, line: u32, address: Address) -> Result<Option<End>, NoMemory>
+        requires few { length self.old.craft.setting.addresses ≤ 64 }
+        ensures { (log : List Happening) → StandsBehind self.old log → IfOk result (Did false (flight_step self.old.craft.setting log line (line_values.L address)) line log self.old self.new) }
+    {
+        match link_to(&self.craft, address) {
+            Some(link) => self.enter(Entry::Logon { line, link }),
+            None => Ok(Some(bad_line(line, Code::Address, 1))),
+        }
+    }
+}
