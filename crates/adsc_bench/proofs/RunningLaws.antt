@@ -19,12 +19,6 @@ told : (left : Option (List ℕ)) (P Q : List ℕ → Type 0) → ((bytes : List
 told None P Q follows holds = tt
 told (Some bytes) P Q follows holds = follows bytes holds
 
--- only a script that was carried out whole has the status of one
-done_only : (end : End) → Done ≡ status_of_end end → end ≡ run.Done
-done_only run.Done is = refl
-done_only (run.Bad bad) is = absurd (cc)
-done_only (run.Limit line) is = absurd (cc)
-
 -- the text of an outcome is an output of its script
 output_of : WhatIsShownWasAccepted → (bytes : List ℕ) (workers : ℕ) (outcome : Outcome) (text : List ℕ) → IsOutcome bytes workers outcome → IsWritten outcome text
     → IsOutput bytes workers (status_of_end outcome.end) text
@@ -37,13 +31,13 @@ output_of law bytes workers outcome text is spelled = record {
   allowed = is.allowed;
   ends = ap status_of_end is.of_run.end;
   output = spelled.output is.order is.run is.of_run;
-  shown_was_accepted = λ done setting link request made unreused shown.
-      law bytes is.script is.order is.run workers setting link request is.is_script is.runs is.allowed made
-      (done_only is.run.end (sym done ∙ ap status_of_end is.of_run.end)) unreused shown;
+  shown_was_accepted = λ setting link request made unreused shown.
+      law bytes is.script is.order is.run workers setting link request is.is_script is.runs is.allowed made unreused shown;
 }
 
-pub runs_memory : (before after : Seen) (workers : ℕ) (unwritten : Type 0) → unwritten → Runs before after workers unwritten NoMemory
-runs_memory before after workers unwritten kept = record { promised = kept; due = λ unread unwrit. inr refl }
+pub runs_memory : (before after : Seen) (workers : ℕ) (unwritten : Type 0) → after.read_faults ≡ before.read_faults → unwritten
+    → Runs before after workers unwritten NoMemory
+runs_memory before after workers unwritten read kept = record { promised = (read, kept); due = λ unread unwrit. inr refl }
 
 pub runs_read_fault : (before after : Seen) (workers : ℕ) (unwritten : Type 0) → Rose before.read_faults after.read_faults → unwritten
     → Runs before after workers unwritten ReadFault
@@ -51,10 +45,12 @@ runs_read_fault before after workers unwritten rose kept = record { promised = (
 
 pub runs_write_fault : WhatIsShownWasAccepted → (before after : Seen) (workers : ℕ) (unwritten : Type 0) (outcome : Outcome) (text : List ℕ)
     → IfSome before.left (λ bytes. IsOutcome bytes workers outcome) → IsWritten outcome text
-    → Rose before.write_faults after.write_faults → AppendsPrefix before.written after.written text → Runs before after workers unwritten WriteFault
-runs_write_fault law before after workers unwritten outcome text is spelled rose front = record {
+    → Rose before.write_faults after.write_faults → after.read_faults ≡ before.read_faults → AppendsPrefix before.written after.written text
+    → Runs before after workers unwritten WriteFault
+runs_write_fault law before after workers unwritten outcome text is spelled rose read front = record {
   promised = (
     rose,
+    read,
     told before.left (λ bytes. IsOutcome bytes workers outcome)
         (λ bytes. (status : Status) × (written : List ℕ) × IsOutput bytes workers status written × AppendsPrefix before.written after.written written)
         (λ bytes here. (status_of_end outcome.end, text, output_of law bytes workers outcome text here spelled, front)) is,

@@ -28,7 +28,7 @@ ShowsWhatWasAccepted order run = (setting : Setting) (link : ℕ) (request : Mes
     → WasAccepted setting (journal_at order run.log) link request
 
 -- The text is the output of the script that these bytes are, under an order that so many workers may take; this is the status of that
--- run. And where the script was carried out whole, what its centres show confirmed was accepted.
+-- run. And what its centres show confirmed was accepted.
 pub record IsOutput (bytes : List ℕ) (workers : ℕ) (status : Status) (text : List ℕ) : Type 0 where
   pub script : Script
   pub order : List ℕ
@@ -38,7 +38,7 @@ pub record IsOutput (bytes : List ℕ) (workers : ℕ) (status : Status) (text :
   pub allowed : IsAllowedOrder script run workers order
   pub ends : status ≡ status_of_end run.end
   pub output : IsRunText order run text
-  pub shown_was_accepted : status ≡ Done → ShowsWhatWasAccepted order run
+  pub shown_was_accepted : ShowsWhatWasAccepted order run
 
 -- No fault came, and an output of the script was written, whose run has this status.
 abbrev pub WroteOutput : Seen → Seen → ℕ → Status → Type 0
@@ -54,14 +54,14 @@ RunPromises before after workers unwritten Refused = ⊥
 RunPromises before after workers unwritten Words = ⊥
 -- ReadFault: a read failed, and nothing was written.
 RunPromises before after workers unwritten ReadFault = Rose before.read_faults after.read_faults × unwritten
--- WriteFault: a write failed, and a beginning of an output was written.
-RunPromises before after workers unwritten WriteFault = Rose before.write_faults after.write_faults
+-- WriteFault: a write failed and no read did, and a beginning of an output was written.
+RunPromises before after workers unwritten WriteFault = Rose before.write_faults after.write_faults × (after.read_faults ≡ before.read_faults)
     × IfSome before.left (λ bytes. (status : Status) × (text : List ℕ) × IsOutput bytes workers status text × AppendsPrefix before.written after.written text)
 -- BadLine, Limit: an output of the script was written, up to its first bad line or to its limit.
 RunPromises before after workers unwritten BadLine = WroteOutput before after workers BadLine
 RunPromises before after workers unwritten Limit = WroteOutput before after workers Limit
--- NoMemory: nothing was written.
-RunPromises before after workers unwritten NoMemory = unwritten
+-- NoMemory: no read failed, and nothing was written.
+RunPromises before after workers unwritten NoMemory = (after.read_faults ≡ before.read_faults) × unwritten
 
 -- What `run` promises: what its status promises; and where no fault comes, an output of the script was written, whose run has this
 -- status, or memory was wanted.

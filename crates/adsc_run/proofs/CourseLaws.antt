@@ -1,8 +1,8 @@
 -- The laws of a course: what a happening makes of its stations, and which step it is.
-use Rattle.std.proofs.Common.{◌≡◌, ◌≢◌, ◌<◌, ℕ, zero, suc, Bool, true, false, cond, ◌||◌, ◌==◌, All, List, [], ◌∷◌, ◌++◌, set, map, length, get_or, slice_get, Option, Some, None, inl, inr, refl, sym, ap, ◌∙◌, subst, append-nil, length-set, get_or-set_same, get_or-set_other, ne_eqb, eqb-true}
-use Rattle.std.proofs.lemmas.Bool.{cases_Bool, eqb-false}
+use Rattle.std.proofs.Common.{◌≡◌, ◌≢◌, ◌<◌, ℕ, Bool, true, false, cond, ◌||◌, ◌==◌, All, List, [], ◌∷◌, ◌++◌, set, map, length, slice_get, Some, refl, sym, ap, ◌∙◌, subst, append-nil, length-set, get_or-set_same, get_or-set_other, eqb-true}
+use Rattle.std.proofs.lemmas.Bool.{eqb-false}
 use Rattle.std.proofs.lemmas.Option.{slice_get-get_or, slice_get_within, get_or_from_slice_get}
-use Rattle.std.proofs.lemmas.List.Elements.{All-append, All-cons, All-nil}
+use Rattle.aircraft_core.specs.Aircraft.{Aircraft}
 use Rattle.aircraft_core.specs.Entries.{IsTakenBy}
 use Rattle.aircraft_core.specs.Setting.{Setting}
 use Rattle.aircraft_core.specs.declared.entry.Entry.{Entry}
@@ -12,12 +12,14 @@ use Rattle.centre_core.specs.Histories.{StandsFor}
 use Rattle.centre_core.specs.Hearing.{Hearing}
 use Rattle.adsc_requests.specs.declared.message.Message.{Message}
 use Rattle.net_script.specs.declared.line.Cancel.{Cancel}
-use Rattle.run_rules.specs.Happenings.{Happening, Entered, Refused, Asked, Cancelled, Brought, Heard, Carries, answer_sent, with_cancel, entries, history, is_centre, is_raw, is_text_on, makes_centre, makes_raw, refused_in, refused_lines, sent_in, sent_messages, with_happening}
+use Rattle.run_rules.specs.Happenings.{Happening, Entered, Refused, Asked, Cancelled, Brought, Heard, Carries, answer_sent, with_cancel, history, is_centre, is_raw, is_text_on, makes_centre, makes_raw, refused_in, sent_in, sent_messages, with_happening}
 use Rattle.run_rules.specs.declared.refused.RefusedLine.{RefusedLine}
-use Rattle.adsc_run.specs.Courses.{StandsBehind}
+use Rattle.adsc_run.specs.Courses.{KnowsEnds, StandsBehind}
+use Rattle.adsc_run.specs.Outboxes.{AreFound}
 use Rattle.adsc_run.specs.Stations.{StationStands, text_sent}
 use Rattle.adsc_run.specs.declared.course.Course.{Course}
 use Rattle.adsc_run.specs.declared.station.Station.{Station}
+use Rattle.adsc_run.proofs.FoundLaws.{found_on}
 
 -- ---- happenings elsewhere
 
@@ -79,14 +81,46 @@ station_stays setting link log station happening stood apart =
           ∙ sym (ap (λ more. map text_sent (sent_messages link log ++ more)) apart.sent ∙ ap (map text_sent) (append-nil (sent_messages link log)));
     }
 
+-- ---- the ends of downlinks
+
+-- Where the aircraft is as it was, the course knows the ends that it knew.
+pub knows_still : (before now : Course) → KnowsEnds before → now.craft ≡ before.craft → now.downlink_ends.items ≡ before.downlink_ends.items → KnowsEnds now
+knows_still before now known craft ends =
+    subst (λ (c : Aircraft). AreFound c.setting c.journal now.downlink_ends.items) (sym craft)
+    (subst (AreFound before.craft.setting before.craft.journal) (sym ends) known)
+
+-- Where the journal goes on, the course knows the ends that it knew.
+pub knows_on : (before now : Course) (more : List Entry) → KnowsEnds before → now.craft.setting ≡ before.craft.setting
+    → now.craft.journal ≡ before.craft.journal ++ more → now.downlink_ends.items ≡ before.downlink_ends.items → KnowsEnds now
+knows_on before now more known own journal ends =
+    subst (λ setting. AreFound setting now.craft.journal now.downlink_ends.items) (sym own)
+    (subst (λ entered. AreFound before.craft.setting entered now.downlink_ends.items) (sym journal)
+    (subst (AreFound before.craft.setting (before.craft.journal ++ more)) (sym ends)
+    (found_on before.craft.setting before.craft.journal more before.downlink_ends.items known)))
+
+-- Where only ends were found, the course stands behind the same log.
+pub finds : (before now : Course) (log : List Happening) → StandsBehind before log → now.craft ≡ before.craft → now.stations.items ≡ before.stations.items
+    → now.refused.items ≡ before.refused.items → now.burst.items ≡ before.burst.items → KnowsEnds now → StandsBehind now log
+finds before now log stood craft same refused burst known =
+    let own : now.craft.setting ≡ before.craft.setting = ap (λ (c : Aircraft). c.setting) craft in
+    record {
+      count = ap length same ∙ stood.count ∙ sym (ap (λ (s : Setting). length s.addresses) own);
+      each = λ link station there. subst (λ s. StationStands s link log station) (sym own)
+          (stood.each link station (ap (λ all. slice_get all link) (sym same) ∙ there));
+      refused = refused ∙ stood.refused;
+      waiting = subst (λ s. All (IsTakenBy s) now.burst.items) (sym own)
+          (subst (λ these. All (IsTakenBy before.craft.setting) these) (sym burst) stood.waiting);
+      found = known;
+    }
+
 -- ---- the stations of a course
 
 -- Nothing happens to any station.
 pub all_stay : (before now : Course) (log : List Happening) (happening : Happening) → StandsBehind before log
     → now.craft.setting ≡ before.craft.setting → now.stations.items ≡ before.stations.items
     → now.refused.items ≡ before.refused.items ++ refused_in happening
-    → All (IsTakenBy now.craft.setting) now.burst.items → ((link : ℕ) → IsApart link happening) → StandsBehind now (happening ∷ log)
-all_stay before now log happening stood own same refused waiting apart =
+    → All (IsTakenBy now.craft.setting) now.burst.items → KnowsEnds now → ((link : ℕ) → IsApart link happening) → StandsBehind now (happening ∷ log)
+all_stay before now log happening stood own same refused waiting known apart =
     record {
       count = ap length same ∙ stood.count ∙ sym (ap (λ (s : Setting). length s.addresses) own);
       each = λ link station there. station_stays now.craft.setting link log station happening
@@ -94,6 +128,7 @@ all_stay before now log happening stood own same refused waiting apart =
           (apart link);
       refused = refused ∙ ap (λ front. front ++ refused_in happening) stood.refused;
       waiting = waiting;
+      found = known;
     }
 
 -- Something happens to one station.
@@ -101,14 +136,15 @@ pub one_acts : (before now : Course) (log : List Happening) (happening : Happeni
     → now.craft.setting ≡ before.craft.setting → link < length before.stations.items → now.stations.items ≡ set before.stations.items link station
     → StationStands before.craft.setting link (happening ∷ log) station
     → now.refused.items ≡ before.refused.items ++ refused_in happening
-    → All (IsTakenBy now.craft.setting) now.burst.items → ((other : ℕ) → other ≢ link → IsApart other happening) → StandsBehind now (happening ∷ log)
-one_acts before now log happening link station stood own inside same stands refused waiting apart =
+    → All (IsTakenBy now.craft.setting) now.burst.items → KnowsEnds now → ((other : ℕ) → other ≢ link → IsApart other happening) → StandsBehind now (happening ∷ log)
+one_acts before now log happening link station stood own inside same stands refused waiting known apart =
     record {
       count = ap length same ∙ length-set before.stations.items link station ∙ stood.count ∙ sym (ap (λ (s : Setting). length s.addresses) own);
       each = λ other found there.
           subst (λ s. StationStands s other (happening ∷ log) found) (sym own) (at other found (ap (λ all. slice_get all other) (sym same) ∙ there));
       refused = refused ∙ ap (λ front. front ++ refused_in happening) stood.refused;
       waiting = waiting;
+      found = known;
     }
   where
     at : (other : ℕ) (found : Station) → slice_get (set before.stations.items link station) other ≡ Some found
@@ -133,17 +169,3 @@ one_acts before now log happening link station stood own inside same stands refu
         at_link : (same : Bool) → (other == link) ≡ same → StationStands before.craft.setting other (happening ∷ log) found
         at_link true same = here (eqb-true other link same)
         at_link false same = apart_from (eqb-false other link same)
-
--- ---- one station more
-
--- What holds of each station, and of one behind them, holds of all.
-pub pushed_each : (P : ℕ → Station → Type 0) (all : List Station) (one : Station) → ((link : ℕ) (station : Station) → slice_get all link ≡ Some station → P link station)
-    → P (length all) one → (link : ℕ) (station : Station) → slice_get (all ++ one ∷ []) link ≡ Some station → P link station
-pushed_each P [] one each last zero station there = subst (P 0) (some_same there) last
-  where
-    some_same : Some one ≡ Some station → one ≡ station
-    some_same e = cc
-pushed_each P [] one each last (suc link) station there = absurd (cc)
-pushed_each P (first ∷ all) one each last zero station there = each 0 station there
-pushed_each P (first ∷ all) one each last (suc link) station there =
-    pushed_each (λ n. P (suc n)) all one (λ n found is. each (suc n) found is) last link station there

@@ -1,5 +1,5 @@
 -- The laws of reading a script line by line.
-use Rattle.std.proofs.Common.{◌≡◌, ℕ, zero, suc, ◌+◌, ◌<◌, ◌≤◌, Bool, true, false, IsTrue, List, [], ◌∷◌, ◌++◌, length, take, drop, Option, Some, None, IfSome, Result, Ok, Err, inl, inr, refl, sym, ap, ◌∙◌, subst, append_assoc, append-nil, arith, add-one}
+use Rattle.std.proofs.Common.{◌≡◌, ℕ, zero, suc, ◌+◌, ◌<◌, Bool, true, false, IsTrue, List, [], ◌∷◌, ◌++◌, length, take, drop, Option, Some, None, IfSome, Result, Ok, inl, inr, refl, sym, ap, ◌∙◌, subst, append_assoc, append-nil, arith, add-one}
 use Rattle.std.proofs.lemmas.List.{length-append}
 use Rattle.std.proofs.lemmas.List.Elements.{All-head, All-tail}
 use Rattle.std.specs.List.{All}
@@ -13,7 +13,7 @@ use Rattle.adsc_io.specs.declared.line.Line.{Line}
 use Rattle.adsc_io.specs.declared.line.Line.TheVariants as answers
 use Rattle.adsc_io.proofs.Joined.{Consumes-none, Consumes-then}
 use Rattle.adsc_io.proofs.LinesLaws.{script_lines-unbroken}
-use Rattle.adsc_io.proofs.LimitLaws.{before_limit-all, before_limit-at, before_limit-front, within_before}
+use Rattle.adsc_io.proofs.LimitLaws.{before_limit-at, before_limit-front, within_before}
 use Rattle.net_script.specs.declared.refusal.Code.TheVariants as code
 use Rattle.run_rules.specs.Readings.{ReadsLine}
 use Rattle.run_rules.specs.Runs.{IsScript, ReadsLines}
@@ -21,7 +21,9 @@ use Rattle.run_rules.specs.declared.reading.Reading.{Reading}
 use Rattle.run_rules.specs.declared.reading.Reading.TheVariants.{Bad}
 use Rattle.run_rules.proofs.EachReading.{each_reading}
 use Rattle.run_rules.proofs.Scripts.{each_script}
-use Rattle.adsc_run.specs.Feeds.{HasRead, IsWhole}
+use Rattle.adsc_run.specs.Feeds.{HasRead, IsNext, IsReadAs, IsWhole}
+use Rattle.adsc_run.specs.declared.feed.Next.{Next}
+use Rattle.adsc_run.specs.declared.feed.Next.TheVariants as found
 
 -- ---- what a source told
 
@@ -160,6 +162,15 @@ text_was_read before now left reader next readings number line reading has call 
   where
     count : number ≡ length readings + 1
     count = omega (arith, numbered, call.passed, has.counted)
+
+-- so it stands next
+pub text_is_next : (before now left : Option (List ℕ)) (reader next : LinesRead) (readings : List Reading) (number : ℕ) (line : List ℕ) (found : Next)
+    → HasRead before now reader readings → ReadsNext reader next now left (Ok answers.Text) → number ≡ next.number → line ≡ next.text → IsReadAs number line found
+    → IsNext before left next readings found
+text_is_next before now left reader next readings number line (found.Line reading) has call numbered same reads =
+    text_was_read before now left reader next readings number line reading has call numbered same reads
+text_is_next before now left reader next readings number line found.End has call numbered same reads = absurd reads
+text_is_next before now left reader next readings number line found.Limit has call numbered same reads = absurd reads
 
 -- a line that is too long was read
 pub long_was_read : (before now left : Option (List ℕ)) (reader next : LinesRead) (readings : List Reading)

@@ -1,5 +1,5 @@
 -- The laws of the head: how a script comes from stage to stage, and how it ends there.
-use Rattle.std.proofs.Common.{◌≡◌, ℕ, ◌+◌, Bool, true, false, List, [], ◌∷◌, ◌++◌, length, Option, Some, None, IfSome, refl, sym, ap, ◌∙◌, subst, append_assoc, append-nil, arith}
+use Rattle.std.proofs.Common.{◌≡◌, ℕ, ◌+◌, Bool, true, false, List, [], ◌∷◌, ◌++◌, length, Option, IfSome, refl, sym, ap, ◌∙◌, subst, append_assoc}
 use Rattle.std.proofs.lemmas.Option.{IfSome_then}
 use Rattle.std.proofs.lemmas.List.{length-append}
 use Rattle.adsc_io.specs.Readers.{LinesRead}
@@ -11,9 +11,8 @@ use Rattle.ground_texts.specs.declared.ground_text.GroundText.{GroundText}
 use Rattle.net_script.specs.declared.line.ScriptLine.{ScriptLine}
 use Rattle.net_script.specs.declared.refusal.Code.{Code}
 use Rattle.net_script.specs.declared.refusal.Code.TheVariants as code
-use Rattle.run_rules.specs.EarlierLines.{HasHead}
 use Rattle.run_rules.specs.Lines.{step_of}
-use Rattle.run_rules.specs.Runs.{IsScript, Run, ScriptRun, end_behind, ended_run}
+use Rattle.run_rules.specs.Runs.{IsScript, ScriptRun, end_behind, ended_run}
 use Rattle.run_rules.specs.Stages.{Stage, begun, named, linked, flying, does, stops, setting_with, stage_behind}
 use Rattle.run_rules.specs.declared.end.End.{End}
 use Rattle.run_rules.specs.declared.reading.Reading.{Reading}

@@ -1,5 +1,7 @@
 pub mod CourseLaws
+pub mod EachItem
 pub mod FeedLaws
+pub mod FoundLaws
 pub mod HeadLaws
 pub mod ListLaws
 pub mod OutboxLaws

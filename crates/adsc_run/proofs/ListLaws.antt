@@ -7,8 +7,8 @@ use Rattle.std.proofs.lemmas.List.Elements.{All-head, All-tail, filter-append}
 use Rattle.std.proofs.lemmas.Option.{get_or_from_slice_get, slice_get-get_or, slice_get_within}
 use Rattle.aircraft_core.specs.declared.entry.Entry.{Entry}
 use Rattle.link_threads.specs.Interleavings.{Interleaves}
-use Rattle.run_rules.specs.EarlierLines.{AreTaken, AreWorkersLists, IsWoven, taken_by, text_link}
-use Rattle.run_rules.proofs.Weaving.{woven_is_taken}
+use Rattle.run_rules.specs.EarlierLines.{AreTaken, AreWorkersLists, taken_by, text_link}
+use Rattle.run_rules.proofs.Weaving.{IsWoven, woven_is_taken}
 use Rattle.adsc_run.specs.Lists.{AreBusyLists, is_filled, lists_in}
 
 -- ---- dealt out

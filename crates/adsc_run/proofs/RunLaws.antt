@@ -1,41 +1,42 @@
 -- The laws of a run that is under way: what a line, a burst and the end make of where it stands.
-use Rattle.std.proofs.Common.{◌≡◌, ◌≢◌, ◌<◌, ◌≤◌, ◌-◌, ℕ, ◌+◌, Bool, true, false, List, [], ◌∷◌, ◌++◌, length, Option, Some, None, IfSome, Result, Ok, Err, slice_get, inl, inr, refl, sym, ap, ◌∙◌, subst, append_assoc, append-nil, arith}
+use Rattle.std.proofs.Common.{◌≡◌, ◌≢◌, ◌⊎◌, ◌<◌, ◌≤◌, ◌-◌, ◌*◌, ℕ, ◌+◌, Bool, true, false, List, [], ◌∷◌, ◌++◌, length, Option, Some, None, IfSome, slice_get, inl, inr, refl, sym, ap, ◌∙◌, subst, append_assoc, append-nil, arith}
 use Rattle.std.proofs.lemmas.Option.{IfSome_then}
 use Rattle.std.specs.Io.KnownBytes.{IsAtEnd}
-use Rattle.adsc_io.specs.Readers.{LinesRead, StandsIn}
+use Rattle.adsc_io.specs.Readers.{LinesRead}
 use Rattle.adsc_io.specs.declared.limits.TheConstants.{MAX_SCRIPT_LINES}
-use Rattle.adsc_io.proofs.LimitLaws.{within_parts}
 use Rattle.aircraft_core.specs.Downlinks.{AreDownlinks}
 use Rattle.aircraft_core.specs.Entries.{IsTakenBy, line_of}
 use Rattle.centre_core.specs.Hearing.{Says}
 use Rattle.std.proofs.lemmas.List.Elements.{All-nil}
 use Rattle.std.specs.List.{All}
-use Rattle.std.specs.Prelude.{IfOk}
 use Rattle.aircraft_core.specs.Setting.{Setting, address_of}
 use Rattle.aircraft_core.specs.Aircraft.{Aircraft}
 use Rattle.aircraft_core.specs.declared.entry.Entry.{Entry}
 use Rattle.net_script.specs.declared.refusal.Code.{Code}
 use Rattle.net_script.specs.declared.refusal.Code.TheVariants as code
 use Rattle.run_rules.specs.Among.{IsAmong}
-use Rattle.run_rules.specs.EarlierLines.{HasGone}
+use Rattle.run_rules.specs.EarlierLines.{AreTaken, HasGone}
 use Rattle.run_rules.specs.Happenings.{Happening, entries}
 use Rattle.run_rules.specs.Lines.{step_of}
 use Rattle.run_rules.specs.Orders.{is_burst_line, journal_of, line_order}
-use Rattle.run_rules.specs.Runs.{IsAllowedOrder, IsScript, ScriptRun, ended_run, end_behind, journal_at}
+use Rattle.run_rules.specs.Runs.{IsAllowedOrder, IsScript, Script, ScriptRun, ended_run, end_behind, journal_at}
 use Rattle.run_rules.specs.Stages.{Step, does, receives, stops, flying}
 use Rattle.run_rules.specs.declared.end.End.{End}
 use Rattle.run_rules.specs.declared.end.End.TheVariants.{Done, Limit}
 use Rattle.run_rules.specs.declared.reading.Reading.{Reading}
-use Rattle.run_rules.proofs.Along.{IsHeard}
 use Rattle.run_rules.proofs.EarlierLines.{entered_below, has_begun, has_ended, has_entered, has_gone_on, has_heard, has_joined, has_missed, has_stopped, has_taken, joined_journal, journal_has_entered, journal_so_far}
+use Rattle.run_rules.proofs.Weaving.{taken_was_waiting}
 use Rattle.run_rules.proofs.LineEntries.{NoneOrOne, OfLine, one_of_line, own_downlinks}
-use Rattle.adsc_run.specs.Courses.{Did, HasEntered, HasGrown, IsHeardAt, IsMissing, StandsBehind}
-use Rattle.adsc_run.specs.Feeds.{HasRead, IsWhole}
+use Rattle.adsc_run.specs.Courses.{Did, HasEntered, HasGrown, StandsBehind}
+use Rattle.adsc_run.specs.Feeds.{HasRead, IsNext, IsWhole, passed}
 use Rattle.adsc_run.specs.Outcomes.{AreCentres, IsOutcome, journal_in, setting_in}
 use Rattle.adsc_run.specs.Stations.{StationStands, ends_bad}
 use Rattle.adsc_run.specs.declared.outcome.Outcome.{Outcome}
-use Rattle.adsc_run.specs.UnderWay.{CarriedOut, HasEnded, IsCarriedOn, IsInStage, IsOver, IsUnderWay, Stands}
+use Rattle.adsc_run.specs.UnderWay.{CarriedOut, DidNext, HasEnded, IsAtNext, IsCarriedOn, IsEnding, IsInStage, IsOver, IsReadyFor, IsUnderWay, Stands}
+use Rattle.adsc_run.specs.declared.feed.Next.{Next}
+use Rattle.adsc_run.specs.declared.feed.Next.TheVariants as next
 use Rattle.adsc_run.specs.declared.course.Course.{Course}
+use Rattle.adsc_run.proofs.CourseLaws.{knows_on}
 use Rattle.adsc_run.proofs.FeedLaws.{goes_on_somehow}
 
 -- the same for another name of the setting and of what waits
@@ -166,6 +167,7 @@ behind_entered workers before now log entered behind = record {
       (behind.each link station (ap (λ v. slice_get v.items link) (sym entered.stations) ∙ there));
   refused = ap (λ v. v.items) entered.refused ∙ behind.refused;
   waiting = subst (λ these. All (IsTakenBy now.craft.setting) these) (sym entered.none) (All-nil (IsTakenBy now.craft.setting));
+  found = knows_on before now entered.woven behind.found entered.setting entered.journal (ap (λ v. v.items) entered.ends);
 }
 
 -- the workers entered the burst of a course that stands
@@ -278,42 +280,6 @@ source_stopped workers before now reader readings reading course end has carried
 
 -- ---- calls
 
--- what holds of a result whatever is so far
-pub if_ok_when : {X E : Type 0} (result : Result X E) (A : Type 0) (B C : A → Type 0) (P : X → A → Type 0)
-    → ((a : A) → B a → C a → IfOk result (λ x. P x a)) → IfOk result (λ x. (a : A) → B a → C a → P x a)
-if_ok_when (Ok value) A B C P holds = holds
-if_ok_when (Err fault) A B C P holds = tt
-
--- a line outside bursts was carried out, behind the burst before it
-pub carried_at_once : (workers number : ℕ) (readings : List Reading) (reading : Reading) (before middle now : Course) (end : Option End) → number ≡ length readings + 1
-    → (stood : Stands workers readings before) → (entered : HasEntered workers before middle) → is_burst_line (Some reading) ≡ false
-    → Did (is_burst_line (Some reading)) (step_of (flying middle.craft.setting) stood.log number reading) number stood.log middle now end
-    → CarriedOut workers readings reading now end
-carried_at_once workers number readings reading before middle now end numbered stood entered other did =
-    line_carried_out workers readings reading middle now (burst_entered workers readings before middle stood entered) entered.none end
-    (subst (λ b. Did b (step_of (flying middle.craft.setting) stood.log (length readings + 1) reading) (length readings + 1) stood.log middle now end) other
-    (subst (λ n. Did (is_burst_line (Some reading)) (step_of (flying middle.craft.setting) stood.log n reading) n stood.log middle now end) numbered did))
-
--- a line of a burst was carried out
-pub carried_in_burst : (workers number : ℕ) (readings : List Reading) (reading : Reading) (before now : Course) → number ≡ length readings + 1
-    → (stood : Stands workers readings before) → is_burst_line (Some reading) ≡ true
-    → Did (is_burst_line (Some reading)) (step_of (flying before.craft.setting) stood.log number reading) number stood.log before now None
-    → CarriedOut workers readings reading now None
-carried_in_burst workers number readings reading before now numbered stood burst did =
-    burst_joined workers readings reading before now stood burst
-    (subst (λ b. Did b (step_of (flying before.craft.setting) stood.log (length readings + 1) reading) (length readings + 1) stood.log before now None) burst
-    (subst (λ n. Did (is_burst_line (Some reading)) (step_of (flying before.craft.setting) stood.log n reading) n stood.log before now None) numbered did))
-
--- a line of a burst ended the run
-pub ended_in_burst : (workers number : ℕ) (readings : List Reading) (reading : Reading) (before middle now : Course) (end : End) → number ≡ length readings + 1
-    → (stood : Stands workers readings before) → is_burst_line (Some reading) ≡ true
-    → Did (is_burst_line (Some reading)) (step_of (flying before.craft.setting) stood.log number reading) number stood.log before middle (Some end)
-    → HasEntered workers middle now → CarriedOut workers readings reading now (Some end)
-ended_in_burst workers number readings reading before middle now end numbered stood burst did entered =
-    burst_stopped workers readings reading before middle now end stood
-    (subst (λ b. Did b (step_of (flying before.craft.setting) stood.log (length readings + 1) reading) (length readings + 1) stood.log before middle (Some end)) burst
-    (subst (λ n. Did (is_burst_line (Some reading)) (step_of (flying before.craft.setting) stood.log n reading) n stood.log before middle (Some end)) numbered did)) entered
-
 -- a line left the setting as it was, and the stations as many
 pub did_keeps : (waits : Bool) (step : Step) (line : ℕ) (log : List Happening) (before now : Course) (end : Option End) → Did waits step line log before now end
     → now.craft.setting ≡ before.craft.setting
@@ -329,11 +295,6 @@ did_keeps true (receives setting link place) line log before now None did = absu
 did_keeps true (receives setting link place) line log before now (Some end) did = absurd did
 did_keeps false (receives setting link place) line log before now None did = did.3.setting
 did_keeps false (receives setting link place) line log before now (Some end) did = did.4.setting
-
--- what was done, as it ended
-pub did_so : (waits : Bool) (step : Step) (line : ℕ) (log : List Happening) (before now : Course) (end found : Option End) → end ≡ found
-    → Did waits step line log before now end → Did waits step line log before now found
-did_so waits step line log before now end found is did = subst (λ e. Did waits step line log before now e) is did
 
 -- what waits behind a line is taken
 pub waits_taken : (waits : Bool) (step : Step) (line : ℕ) (log : List Happening) (before now : Course) (end : Option End) → Did waits step line log before now end
@@ -351,28 +312,167 @@ waits_taken true (receives setting link place) line log before now (Some end) di
 waits_taken false (receives setting link place) line log before now None did = did.2.waiting
 waits_taken false (receives setting link place) line log before now (Some end) did = did.3.waiting
 
+-- a line of no burst leaves what waits
+did_waits : (step : Step) (line : ℕ) (log : List Happening) (before now : Course) (end : Option End) → Did false step line log before now end
+    → now.burst.items ≡ before.burst.items
+did_waits (does happenings) line log before now None did = did.1.burst
+did_waits (does happenings) line log before now (Some end) did = absurd did
+did_waits (stops found value) line log before now None did = absurd did
+did_waits (stops found value) line log before now (Some end) did = did.2.burst
+did_waits (receives setting link place) line log before now None did = did.3.burst
+did_waits (receives setting link place) line log before now (Some end) did = did.4.burst
+
+-- a line that ends a run is bad
+bad_ends : (waits : Bool) (step : Step) (line : ℕ) (log : List Happening) (before now : Course) (end : End) → Did waits step line log before now (Some end) → end ≢ Done
+bad_ends waits step line log before now end did done = at waits step did
+  where
+    bad : (found : Code) (value : ℕ) → end ≡ ends_bad line found value → ⊥
+    bad found value is = let both : ends_bad line found value ≡ Done = sym is ∙ done in cc
+
+    at : (waits : Bool) (step : Step) → Did waits step line log before now (Some end) → ⊥
+    at true (does happenings) did = absurd did
+    at false (does happenings) did = absurd did
+    at true (stops found value) did = bad found value did.0
+    at false (stops found value) did = bad found value did.0
+    at true (receives setting link place) did = absurd did
+    at false (receives setting link place) did = bad code.Number did.0 did.2
+
+-- ---- where nothing waits
+
+nothing_taken : (workers : ℕ) (woven : List Entry) → AreTaken workers [] woven → woven ≡ []
+nothing_taken workers [] taken = refl
+nothing_taken workers (first ∷ woven) taken = absurd (taken_was_waiting workers [] (first ∷ woven) taken first (inl refl))
+
+-- a script that ended with nothing waiting has ended, too, once nothing was entered
+ended_entered : (workers : ℕ) (script : Script) (course entered : Course) (end : End) → HasEnded workers script course end → course.burst.items ≡ []
+    → HasEntered workers course entered → HasEnded workers script entered end
+ended_entered workers script course entered end ended none has =
+    let woven : has.woven ≡ [] = nothing_taken workers has.woven (subst (λ these. AreTaken workers these has.woven) none has.taken) in
+    let same : entered.craft.journal ≡ course.craft.journal = has.journal ∙ ap (λ made. course.craft.journal ++ made) woven ∙ append-nil course.craft.journal in
+    record {
+      order = ended.order;
+      log = ended.log;
+      runs = subst (λ s. ScriptRun script ended.order (ended_run (flying s) ended.log end)) (sym has.setting) ended.runs;
+      allowed = subst (λ s. IsAllowedOrder script (ended_run (flying s) ended.log end) workers ended.order) (sym has.setting) ended.allowed;
+      journal = same ∙ ended.journal;
+      ordered = ended.ordered ∙ ap line_order (sym same);
+      behind = behind_entered workers course entered ended.log has ended.behind;
+    }
+
 -- ---- one line more
 
--- a line was carried out
-pub line_on : (workers : ℕ) (before now left : Option (List ℕ)) (reader behind : LinesRead) (reading : Reading) (course after : Course) (end : Option End)
-    (way : IsUnderWay workers before now reader course) → HasRead before left behind (way.readings ++ reading ∷ []) → after.craft.setting ≡ course.craft.setting
-    → CarriedOut workers way.readings reading after end → IsCarriedOn workers before left behind after end
-line_on workers before now left reader behind reading course after None way has own carried = record {
-  readings = way.readings ++ reading ∷ [];
-  read = has;
-  stands = carried;
-  few = subst (λ (s : Setting). length s.addresses ≤ 64) (sym own) way.few;
-}
-line_on workers before now left reader behind reading course after (Some end) way has own carried =
-    source_stopped workers before left behind way.readings reading after end has carried
+module _ (workers : ℕ) (before now : Option (List ℕ)) (reader : LinesRead) (reading : Reading) (course after : Course)
+    (at : IsAtNext workers before now reader course (next.Line reading)) where
+  abbrev its_step : Step
+  its_step = step_of (flying course.craft.setting) at.stands.log (length at.readings + 1) reading
 
--- the script ended
-pub end_on : (workers : ℕ) (before now left : Option (List ℕ)) (reader : LinesRead) (course after : Course) (over : Bool) (end : End)
-    (way : IsUnderWay workers before now reader course) → IsWhole before way.readings over → HasEntered workers course after
-    → end ≡ end_behind over (flying after.craft.setting) (length way.readings + 1) → (end ≡ Done → IsAtEnd left) → IsOver workers before left after end
-end_on workers before now left reader course after over end way whole entered is done =
-    source_over workers before left way.readings after over end whole
-    (lines_over workers way.readings after over end (burst_entered workers way.readings course after way.stands entered) entered.none is) done
+  grows : after.craft.setting ≡ course.craft.setting → Stands workers (at.readings ++ reading ∷ []) after → IsUnderWay workers before now reader after
+  grows own stands = record {
+    readings = at.readings ++ reading ∷ [];
+    read = at.next;
+    stands = stands;
+    few = subst (λ (s : Setting). length s.addresses ≤ 64) (sym own) at.few;
+  }
+
+  -- a line of a burst
+  in_burst : (end : Option End) → is_burst_line (Some reading) ≡ true
+      → Did true its_step (length at.readings + 1) at.stands.log course after end → IsCarriedOn workers before now reader after end
+  in_burst None burst did = grows (did_keeps true its_step (length at.readings + 1) at.stands.log course after None did) (burst_joined workers at.readings reading course after at.stands burst did)
+  in_burst (Some end) burst did = record {
+    ended = λ entered has.
+        (source_stopped workers before now reader at.readings reading entered end at.next
+        (burst_stopped workers at.readings reading course after entered end at.stands did has)).ended;
+    done = λ done. absurd (bad_ends true its_step (length at.readings + 1) at.stands.log course after end did done);
+  }
+
+  -- another line, where nothing waits
+  alone : (end : Option End) → course.burst.items ≡ []
+      → Did false its_step (length at.readings + 1) at.stands.log course after end → IsCarriedOn workers before now reader after end
+  alone None none did = grows (did_keeps false its_step (length at.readings + 1) at.stands.log course after None did) (line_carried_out workers at.readings reading course after at.stands none None did)
+  alone (Some end) none did =
+      let carried = line_carried_out workers at.readings reading course after at.stands none (Some end) did in
+      record {
+        ended = λ entered has.
+            (source_stopped workers before now reader at.readings reading entered end at.next (
+              carried.0,
+              λ over rest. ended_entered workers _ after entered end (carried.1 over rest)
+                  (did_waits its_step (length at.readings + 1) at.stands.log course after (Some end) did ∙ none) has,
+            )).ended;
+        done = λ done. absurd (carried.0 done);
+      }
+
+-- the script ends where what stands next is no line
+ends_next : (workers : ℕ) (before now : Option (List ℕ)) (readings : List Reading) (course : Course) (over : Bool) (end : End) → Stands workers readings course
+    → IsWhole before readings over → ((setting : Setting) → end ≡ end_behind over (flying setting) (length readings + 1)) → (end ≡ Done → IsAtEnd now)
+    → IsEnding workers before now course end
+ends_next workers before now readings course over end stands whole is done = record {
+  ended = λ entered has.
+      (source_over workers before now readings entered over end whole
+      (lines_over workers readings entered over end (burst_entered workers readings course entered stands has) has.none (is entered.craft.setting)) done).ended;
+  done = done;
+}
+
+-- what stood next was carried out
+pub carried_on : (workers : ℕ) (before now : Option (List ℕ)) (reader : LinesRead) (number : ℕ) (found : Next) (course after : Course) (end : Option End)
+    (at : IsAtNext workers before now reader course found) → number ≡ reader.number → IsReadyFor course found → DidNext found number at.stands.log course after end
+    → IsCarriedOn workers before now reader after end
+carried_on workers before now reader number (next.Line reading) course after end at numbered ready did = by_kind (is_burst_line (Some reading)) refl
+  where
+    here : Did (is_burst_line (Some reading)) (step_of (flying course.craft.setting) at.stands.log (length at.readings + 1) reading) (length at.readings + 1) at.stands.log course after end
+    here = subst (λ n. Did (is_burst_line (Some reading)) (step_of (flying course.craft.setting) at.stands.log n reading) n at.stands.log course after end) (numbered ∙ at.counted) did
+
+    nothing_waits : (is_burst_line (Some reading) ≡ true) ⊎ (course.burst.items ≡ []) → is_burst_line (Some reading) ≡ false → course.burst.items ≡ []
+    nothing_waits (inl burst) other = absurd (let both : true ≡ false = sym burst ∙ other in cc)
+    nothing_waits (inr none) other = none
+
+    by_kind : (kind : Bool) → is_burst_line (Some reading) ≡ kind → IsCarriedOn workers before now reader after end
+    by_kind true burst =
+        in_burst workers before now reader reading course after at end burst
+        (subst (λ b. Did b (step_of (flying course.craft.setting) at.stands.log (length at.readings + 1) reading) (length at.readings + 1) at.stands.log course after end) burst here)
+    by_kind false other =
+        alone workers before now reader reading course after at end (nothing_waits ready other)
+        (subst (λ b. Did b (step_of (flying course.craft.setting) at.stands.log (length at.readings + 1) reading) (length at.readings + 1) at.stands.log course after end) other here)
+carried_on workers before now reader number next.End course after end at numbered ready did =
+    subst (λ e. IsCarriedOn workers before now reader after e) (sym did.0)
+    (subst (λ c. IsEnding workers before now c Done) (sym did.1)
+    (ends_next workers before now at.readings course false Done at.stands at.next.0 (λ setting. refl) (λ done. at.next.1)))
+carried_on workers before now reader number next.Limit course after end at numbered ready did =
+    subst (λ e. IsCarriedOn workers before now reader after e) (sym did.0)
+    (subst (λ c. IsEnding workers before now c (Limit (number + 1))) (sym did.1)
+    (ends_next workers before now at.readings course true (Limit (number + 1)) at.stands at.next (λ setting. ap (λ n. Limit (n + 1)) counted) (λ done. absurd (not_done done))))
+  where
+    counted : number ≡ length at.readings
+    counted = let is = at.counted in omega (arith, numbered, is)
+
+    not_done : Limit (number + 1) ≡ Done → ⊥
+    not_done is = cc
+
+-- what waits once it was carried out is taken
+pub did_next_waits : (found : Next) (number : ℕ) (log : List Happening) (before now : Course) (end : Option End) → StandsBehind before log
+    → DidNext found number log before now end → All (IsTakenBy now.craft.setting) now.burst.items
+did_next_waits (next.Line reading) number log before now end behind did =
+    waits_taken (is_burst_line (Some reading)) (step_of (flying before.craft.setting) log number reading) number log before now end did
+did_next_waits next.End number log before now end behind did = subst (λ c. All (IsTakenBy c.craft.setting) c.burst.items) (sym did.1) behind.waiting
+did_next_waits next.Limit number log before now end behind did = subst (λ c. All (IsTakenBy c.craft.setting) c.burst.items) (sym did.1) behind.waiting
+
+-- where nothing is due before it, what stands next is carried out behind the lines so far
+pub at_next : (workers : ℕ) (before now left : Option (List ℕ)) (reader behind : LinesRead) (found : Next) (course : Course)
+    (way : IsUnderWay workers before now reader course) → IsNext before left behind way.readings found → behind.number ≡ reader.number + passed found
+    → IsAtNext workers before left behind course found
+at_next workers before now left reader behind found course way is number =
+    record { readings = way.readings; stands = way.stands; few = way.few; next = is; counted = number ∙ ap (λ n. n + passed found) way.read.counted }
+
+-- the workers entered what waited before it
+pub at_next_entered : (workers : ℕ) (before now : Option (List ℕ)) (reader : LinesRead) (found : Next) (course entered : Course)
+    → IsAtNext workers before now reader course found → HasEntered workers course entered → IsAtNext workers before now reader entered found
+at_next_entered workers before now reader found course entered at has =
+    record {
+      readings = at.readings;
+      stands = burst_entered workers at.readings course entered at.stands has;
+      few = subst (λ (s : Setting). length s.addresses ≤ 64) (sym has.setting) at.few;
+      next = at.next;
+      counted = at.counted;
+    }
 
 -- ---- the outcome
 
@@ -405,26 +505,65 @@ outcome_of workers before now course end outcome over craft refused centres ends
 -- ---- the beginning
 
 -- the first line behind the head stands next
-pub started : (workers : ℕ) (before now : Option (List ℕ)) (reader : LinesRead) (course : Course) (stood : IsInStage before now reader 3 (flying course.craft.setting))
-    → course.craft.journal ≡ [] → course.burst.items ≡ [] → StandsBehind course [] → length course.craft.setting.addresses ≤ 64
+pub started : (workers : ℕ) (before now : Option (List ℕ)) (reader : LinesRead) (craft : Aircraft) (course : Course) → course.craft ≡ craft
+    → IsInStage before now reader 3 (flying craft.setting) → craft.journal ≡ [] → length craft.setting.addresses ≤ 64 → course.burst.items ≡ [] → StandsBehind course []
     → IsUnderWay workers before now reader course
-started workers before now reader course stood empty none behind few = record {
-  readings = stood.readings;
-  read = stood.read;
-  stands = record {
-    order = [];
-    entered = [];
-    log = [];
-    gone = gone_as course.craft.setting course.craft.setting [] course.burst.items refl none (has_begun workers course.craft.setting stood.readings stood.head);
-    journal = empty;
-    behind = behind;
-  };
-  few = few;
-}
+started workers before now reader craft course same stage empty few none behind =
+    let stood : IsInStage before now reader 3 (flying course.craft.setting) = subst (λ (c : Aircraft). IsInStage before now reader 3 (flying c.setting)) (sym same) stage in
+    record {
+      readings = stood.readings;
+      read = stood.read;
+      stands = record {
+        order = [];
+        entered = [];
+        log = [];
+        gone = gone_as course.craft.setting course.craft.setting [] course.burst.items refl none (has_begun workers course.craft.setting stood.readings stood.head);
+        journal = ap (λ (c : Aircraft). c.journal) same ∙ empty;
+        behind = behind;
+      };
+      few = subst (λ (c : Aircraft). length c.setting.addresses ≤ 64) (sym same) few;
+    }
 
--- each line makes the limit nearer
-pub still_counts : (workers : ℕ) (before now : Option (List ℕ)) (reader : LinesRead) (course : Course) (after : ℕ) → IsUnderWay workers before now reader course
-    → after ≡ reader.number + 1 → MAX_SCRIPT_LINES + 1 - after < MAX_SCRIPT_LINES + 1 - reader.number
-still_counts workers before now reader course after way one =
-    let stands : StandsIn (way.read.read ++ []) [] reader = way.read.stands [] (λ end. refl) in
-    omega (arith, one, (within_parts (way.read.read ++ []) reader.number stands.within).0)
+-- ---- turns
+
+-- whether anything waits, as a number
+pub waits : List Entry → ℕ
+waits [] = 0
+waits (first ∷ burst) = 1
+
+-- How many turns there are at most: each carries out a line, or enters what waits.
+abbrev pub turns_left : LinesRead → Next → Course → ℕ
+turns_left reader found course = 2 * (MAX_SCRIPT_LINES + 1 - (reader.number - passed found)) + waits course.burst.items
+
+waits_some : (burst : List Entry) → 0 < length burst → waits burst ≡ 1
+unfolding waits
+waits_some [] some = absurd (omega (arith, some))
+waits_some (first ∷ burst) some = refl
+
+waits_one : (burst : List Entry) → waits burst ≤ 1
+unfolding waits
+waits_one [] = omega arith
+waits_one (first ∷ burst) = omega arith
+
+waits_none : (burst : List Entry) → burst ≡ [] → waits burst ≡ 0
+unfolding waits
+waits_none [] none = refl
+waits_none (first ∷ burst) none = absurd (cc)
+
+-- entering what waits is one turn
+pub entering_is_a_turn : (reader : LinesRead) (found : Next) (course entered : Course) → 0 < length course.burst.items → entered.burst.items ≡ []
+    → turns_left reader found entered < turns_left reader found course
+entering_is_a_turn reader found course entered some none =
+    let one = waits_some course.burst.items some in
+    let zero = waits_none entered.burst.items none in
+    omega (arith, one, zero)
+
+-- carrying out a line is one turn
+pub carrying_is_a_turn : (before after : LinesRead) (found behind : Next) (course now : Course) (number : ℕ) (log : List Happening)
+    → before.number ≤ MAX_SCRIPT_LINES → passed found ≤ before.number → DidNext found number log course now None → after.number ≡ before.number + passed behind
+    → turns_left after behind now < turns_left before found course
+carrying_is_a_turn before after (next.Line reading) behind course now number log few some did counted =
+    let one = waits_one now.burst.items in
+    omega (arith, few, some, counted, one)
+carrying_is_a_turn before after next.End behind course now number log few some did counted = absurd (let both : None ≡ Some Done = did.0 in cc)
+carrying_is_a_turn before after next.Limit behind course now number log few some did counted = absurd (let both : None ≡ Some (Limit (number + 1)) = did.0 in cc)

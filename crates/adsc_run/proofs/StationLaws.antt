@@ -2,7 +2,6 @@
 use Rattle.std.proofs.Common.{◌≡◌, ◌↔◌, ℕ, Bool, true, false, IsTrue, cond, ◌||◌, ◌==◌, List, [], ◌∷◌, ◌++◌, map, Option, Some, None, Result, Ok, Err, inl, inr, if◌then◌else◌, refl, sym, ap, ◌∙◌, subst, eq-eqb}
 use Rattle.std.proofs.lemmas.Bool.{cases_Bool}
 use Rattle.std.proofs.lemmas.List.{map-append}
-use Rattle.adsc_requests.specs.Kind.{kind_in}
 use Rattle.adsc_requests.specs.declared.kind.Kind.{Kind}
 use Rattle.adsc_requests.specs.declared.kind.Kind.TheVariants.{Emergency}
 use Rattle.adsc_requests.specs.declared.message.Message.{Message}
@@ -10,14 +9,12 @@ use Rattle.adsc_requests.specs.declared.message.Message.TheVariants as message
 use Rattle.aircraft_core.specs.Setting.{Setting}
 use Rattle.centre_core.specs.Events.{CentreEvent, Asks}
 use Rattle.centre_core.specs.Histories.{StandsFor, effects, next_number, next_number_at, row_at, row_for, table_at, table_behind, was_contacted}
-use Rattle.centre_core.specs.Rows.{Effect}
-use Rattle.centre_core.specs.Tables.{effect_of, mode_cancel_number, number_pending, number_to_cancel, request_or_refusal, row_if, unless_waiting, with_number}
+use Rattle.centre_core.specs.Tables.{effect_of, mode_cancel_number, number_pending, number_to_cancel, request_or_refusal, unless_waiting, with_number}
 use Rattle.centre_core.specs.View.{KeepsNames}
 use Rattle.centre_core.specs.declared.refusal.AskRefused.{AskRefused}
 use Rattle.centre_core.specs.declared.refusal.AskRefused.TheVariants.{NotLoggedOn, Waiting}
-use Rattle.centre_core.specs.declared.shown.Shown.{Shown}
 use Rattle.centre_core.specs.declared.table.CentreTable.{CentreTable}
-use Rattle.centre_core.proofs.NumberLaws.{kind_in-with_number, logged_on_by_contact}
+use Rattle.centre_core.proofs.NumberLaws.{logged_on_by_contact}
 use Rattle.std.specs.Prelude.{IfOk, OnOk}
 use Rattle.aircraft_core.specs.Setting.{address_of}
 use Rattle.centre_core.specs.Heard.{IsAnswerTo, with_heard}

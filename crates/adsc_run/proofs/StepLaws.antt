@@ -1,5 +1,5 @@
 -- The laws of a line's step: how the course did it.
-use Rattle.std.proofs.Common.{◌≡◌, ◌≢◌, ◌<◌, ◌-◌, ℕ, suc, zero, Bool, true, false, cond, ◌==◌, All, List, [], ◌∷◌, ◌++◌, set, map, length, get_or, slice_get, Option, Some, None, Result, Ok, Err, inl, inr, refl, sym, ap, ◌∙◌, subst, append-nil, arith, ne_eqb, ◌||◌, length-set, get_or-set_same, get_or-set_other, eqb-true}
+use Rattle.std.proofs.Common.{◌≡◌, ◌≢◌, ◌<◌, ◌-◌, ℕ, suc, zero, Bool, true, false, cond, ◌==◌, All, List, [], ◌∷◌, ◌++◌, set, map, length, get_or, slice_get, Option, Some, None, Result, Ok, Err, refl, sym, ap, ◌∙◌, subst, append-nil, arith, ne_eqb, ◌||◌, length-set, get_or-set_same, get_or-set_other, eqb-true}
 use Rattle.std.proofs.lemmas.Bool.{eqb-false}
 use Rattle.std.proofs.lemmas.Option.{get_or_from_slice_get, slice_get-get_or, slice_get_within}
 use Rattle.std.proofs.lemmas.List.Elements.{All-append, All-cons, All-nil}
@@ -18,14 +18,14 @@ use Rattle.net_script.specs.declared.line.Cancel.{Cancel}
 use Rattle.net_script.specs.declared.line.Cancel.TheVariants.{Of, EmergencyMode, All as AllContracts}
 use Rattle.net_script.specs.declared.refusal.Code.{Code}
 use Rattle.net_script.specs.declared.refusal.Code.TheVariants as code
-use Rattle.run_rules.specs.Happenings.{Happening, Entered, Refused, Asked, Cancelled, Brought, Heard, SentMessage, entries, history, is_centre, is_raw, is_text_on, refused_in, sent_messages}
-use Rattle.run_rules.specs.Lines.{as_centre, asking_step, bring_step, bringing_step, cancel_step, cancelling_step, entry_with}
+use Rattle.run_rules.specs.Happenings.{Happening, Entered, Asked, Cancelled, Brought, Heard, SentMessage, history, is_centre, is_raw, is_text_on, refused_in, sent_messages}
+use Rattle.run_rules.specs.Lines.{as_centre, asking_step, bring_step, cancel_step, cancelling_step, entry_with}
 use Rattle.run_rules.specs.Stages.{Step, does, receives, stops}
 use Rattle.run_rules.specs.Texts.{link_from, link_to, payload_happenings, refusal_of, takes}
 use Rattle.run_rules.specs.declared.end.End.{End}
 use Rattle.run_rules.specs.declared.refused.RefusedWhy.{RefusedWhy}
 use Rattle.run_rules.specs.declared.refused.RefusedWhy.TheVariants as why
-use Rattle.adsc_run.specs.Courses.{AreStations, Did, EndsWith, Enters, HasGrown, StandsBehind, StationsDid, Waits}
+use Rattle.adsc_run.specs.Courses.{AreStations, Did, EndsWith, Enters, KnowsEnds, StandsBehind, StationsDid, Waits}
 use Rattle.adsc_run.specs.Stations.{StationDid, StationStands, ends_bad, is_centre_role, is_raw_role, text_of, text_sent}
 use Rattle.aircraft_core.specs.Downlinks.{AreDownlinks}
 use Rattle.std.proofs.lemmas.List.{length-map}
@@ -35,7 +35,7 @@ use Rattle.adsc_run.specs.declared.station.Role.{Role}
 use Rattle.adsc_run.specs.declared.station.Role.TheVariants.{Unused, Raw, Centre}
 use Rattle.adsc_run.specs.declared.station.Station.{Station}
 use Rattle.adsc_run.proofs.StationLaws.{if_ok_none, same_link}
-use Rattle.adsc_run.proofs.CourseLaws.{IsApart, all_stay, asked_apart, brought_apart, cancelled_apart, entered_apart, heard_apart, one_acts, refused_apart}
+use Rattle.adsc_run.proofs.CourseLaws.{IsApart, all_stay, asked_apart, brought_apart, cancelled_apart, entered_apart, finds, heard_apart, knows_on, knows_still, one_acts, refused_apart}
 
 -- ---- a station
 
@@ -102,7 +102,8 @@ ended_here waits (receives setting link place) line log course end is stood = ab
 -- ---- what one station does, with no entry
 
 module _ (line link : ℕ) (log : List Happening) (before now : Course) (stood : StandsBehind before log) (inside : link < length before.stations.items)
-    (craft : now.craft ≡ before.craft) (refused : now.refused.items ≡ before.refused.items) (burst : now.burst.items ≡ before.burst.items) where
+    (craft : now.craft ≡ before.craft) (refused : now.refused.items ≡ before.refused.items) (burst : now.burst.items ≡ before.burst.items)
+    (known : KnowsEnds now) where
   own : now.craft.setting ≡ before.craft.setting
   own = ap (λ (c : Aircraft). c.setting) craft
 
@@ -119,7 +120,7 @@ module _ (line link : ℕ) (log : List Happening) (before now : Course) (stood :
       → StandsBehind now (happening ∷ log)
   station_acts happening station none apart same stands =
       one_acts before now log happening link station stood own inside same stands
-      (refused ∙ sym (append-nil before.refused.items) ∙ ap (λ more. before.refused.items ++ more) (sym none)) still_waiting apart
+      (refused ∙ sym (append-nil before.refused.items) ∙ ap (λ more. before.refused.items ++ more) (sym none)) still_waiting known apart
 
   -- one station is as it was, so all are
   pub station_rests : (station : Station) → now.stations.items ≡ set before.stations.items link station → StationStands before.craft.setting link log station
@@ -129,6 +130,7 @@ module _ (line link : ℕ) (log : List Happening) (before now : Course) (stood :
     each = λ other found there. subst (λ s. StationStands s other log found) (sym own) (at other found (ap (λ all. slice_get all other) (sym same) ∙ there));
     refused = refused ∙ stood.refused;
     waiting = still_waiting;
+    found = known;
   }
     where
       at : (other : ℕ) (found : Station) → slice_get (set before.stations.items link station) other ≡ Some found → StationStands before.craft.setting other log found
@@ -205,10 +207,11 @@ one_waits before now log entry stood craft burst taken =
 pub text_taken : (before now : Course) (log : List Happening) (link line : ℕ) (entry : Entry) (station : Station) → StandsBehind before log
     → slice_get before.stations.items link ≡ Some station → is_centre_role station.role ≡ false
     → ((other : ℕ) → is_text_on other entry ≡ (other == link)) → IsTakenBy before.craft.setting entry
-    → now.craft ≡ before.craft → now.refused ≡ before.refused → now.stations.items ≡ set before.stations.items link (record station { role = Raw })
+    → now.craft ≡ before.craft → now.refused ≡ before.refused → now.downlink_ends.items ≡ before.downlink_ends.items
+    → now.stations.items ≡ set before.stations.items link (record station { role = Raw })
     → now.burst.items ≡ before.burst.items ++ entry ∷ []
     → Did true (takes log link (Entered entry ∷ [])) line log before now None
-text_taken before now log link line entry station stood there unused text taken craft refused same burst =
+text_taken before now log link line entry station stood there unused text taken craft refused ends same burst =
     let stands : StationStands before.craft.setting link log station = stood.each link station there in
     rw (sym stands.centre ∙ unused) (
       one_acts before now log (Entered entry) link (record station { role = Raw }) stood (ap (λ (c : Aircraft). c.setting) craft)
@@ -224,6 +227,7 @@ text_taken before now log link line entry station stood there unused text taken 
           })
           (ap (λ v. v.items) refused ∙ sym (append-nil before.refused.items))
           (one_waits before now log entry stood craft burst taken)
+          (knows_still before now stood.found craft ends)
           (λ other apart. entered_apart other entry (text other ∙ other_link other link apart)),
       record { craft = craft; burst = burst },
     )
@@ -239,10 +243,11 @@ text_of_centre course log link line happenings station end stood there used is =
 pub message_brought : (before now : Course) (log : List Happening) (link line place : ℕ) (sent : SentMessage) (entry : Entry) (station : Station) → StandsBehind before log
     → slice_get before.stations.items link ≡ Some station → is_raw link log ≡ false
     → entry ≡ entry_with line link sent.carried → slice_get (sent_messages link log) (place - 1) ≡ Some sent → IsTakenBy before.craft.setting entry
-    → now.craft ≡ before.craft → now.refused ≡ before.refused → now.stations.items ≡ set before.stations.items link (record station { role = Centre })
+    → now.craft ≡ before.craft → now.refused ≡ before.refused → now.downlink_ends.items ≡ before.downlink_ends.items
+    → now.stations.items ≡ set before.stations.items link (record station { role = Centre })
     → now.burst.items ≡ before.burst.items ++ entry ∷ []
     → Did true (bring_step (sent_messages link log) line link place) line log before now None
-message_brought before now log link line place sent entry station stood there unused made found taken craft refused same burst =
+message_brought before now log link line place sent entry station stood there unused made found taken craft refused ends same burst =
     let stands : StationStands before.craft.setting link log station = stood.each link station there in
     rw (found, sym made) (
       one_acts before now log (Brought link place entry) link (record station { role = Centre }) stood (ap (λ (c : Aircraft). c.setting) craft)
@@ -258,6 +263,7 @@ message_brought before now log link line place sent entry station stood there un
           })
           (ap (λ v. v.items) refused ∙ sym (append-nil before.refused.items))
           (one_waits before now log entry stood craft burst taken)
+          (knows_still before now stood.found craft ends)
           (λ other apart. brought_apart other link place entry (other_link other link apart)),
       record { craft = craft; burst = burst },
     )
@@ -267,22 +273,24 @@ message_brought before now log link line place sent entry station stood there un
 -- a text was refused
 pub text_refused : (before now : Course) (log : List Happening) (line : ℕ) (found : RefusedWhy) → StandsBehind before log → now.craft ≡ before.craft
     → now.stations ≡ before.stations → now.refused.items ≡ before.refused.items ++ record { line = line; why = found } ∷ [] → now.burst ≡ before.burst
-    → StandsBehind now (refusal_of line found ∷ log)
-text_refused before now log line found stood craft stations refused burst =
+    → now.downlink_ends ≡ before.downlink_ends → StandsBehind now (refusal_of line found ∷ log)
+text_refused before now log line found stood craft stations refused burst ends =
     all_stay before now log (refusal_of line found) stood (ap (λ (c : Aircraft). c.setting) craft) (ap (λ v. v.items) stations) refused
     (subst (λ s. All (IsTakenBy s) now.burst.items) (sym (ap (λ (c : Aircraft). c.setting) craft))
     (subst (λ these. All (IsTakenBy before.craft.setting) these) (sym (ap (λ v. v.items) burst)) stood.waiting))
-    (λ link. refused_apart link (record { line = line; why = found }))
+    (knows_still before now stood.found craft (ap (λ v. v.items) ends)) (λ link. refused_apart link (record { line = line; why = found }))
 
 -- an entry of the flight was entered
 pub flight_entered : (before now : Course) (log : List Happening) (line : ℕ) (entry : Entry) → StandsBehind before log
     → now.craft.setting ≡ before.craft.setting → now.craft.journal ≡ before.craft.journal ++ entry ∷ []
-    → now.stations ≡ before.stations → now.refused ≡ before.refused → now.burst ≡ before.burst → ((link : ℕ) → is_text_on link entry ≡ false)
+    → now.stations ≡ before.stations → now.refused ≡ before.refused → now.burst ≡ before.burst → now.downlink_ends ≡ before.downlink_ends
+    → ((link : ℕ) → is_text_on link entry ≡ false)
     → Did false (does (Entered entry ∷ [])) line log before now None
-flight_entered before now log line entry stood own journal stations refused burst flight = (
+flight_entered before now log line entry stood own journal stations refused burst ends flight = (
   all_stay before now log (Entered entry) stood own (ap (λ v. v.items) stations) (ap (λ v. v.items) refused ∙ sym (append-nil before.refused.items))
       (subst (λ s. All (IsTakenBy s) now.burst.items) (sym own)
       (subst (λ these. All (IsTakenBy before.craft.setting) these) (sym (ap (λ v. v.items) burst)) stood.waiting))
+      (knows_on before now (entry ∷ []) stood.found own journal (ap (λ v. v.items) ends))
       (λ link. entered_apart link entry (flight link)),
   record { setting = own; journal = journal; burst = ap (λ v. v.items) burst },
 )
@@ -402,7 +410,7 @@ message_missing course log link line place station count end stood there missing
 
 -- a downlink was heard
 pub downlink_heard : {E : Type 0} (line link : ℕ) (log : List Happening) (before now : Course) (stood : StandsBehind before log) → link < length before.stations.items
-    → now.craft ≡ before.craft → now.refused.items ≡ before.refused.items → now.burst.items ≡ before.burst.items
+    → now.craft ≡ before.craft → now.refused.items ≡ before.refused.items → now.burst.items ≡ before.burst.items → KnowsEnds now
     → (place : ℕ) (texts : List (List ℕ)) (text : List ℕ) (result : Result (Option End) E)
     → AreDownlinks before.craft.setting before.craft.journal link texts → slice_get texts (place - 1) ≡ Some text
     → IfOk result (λ end. end ≡ None)
@@ -411,25 +419,31 @@ pub downlink_heard : {E : Type 0} (line link : ℕ) (log : List Happening) (befo
     × (station : Station) × (now.stations.items ≡ set before.stations.items link station)
     × StationStands setting link (Heard line link place hearing ∷ log) station)
     → is_raw link log ≡ false → IfOk result (Did false (receives before.craft.setting link place) line log before now)
-downlink_heard line link log before now stood inside craft refused burst place texts text result are there none heard unused =
+downlink_heard line link log before now stood inside craft refused burst known place texts text result are there none heard unused =
     if_ok_none result none heard (Did false (receives before.craft.setting link place) line log before now)
     (λ said.
     let did = said before.craft.setting log line place stood.each unused in (
       did.0,
       record { texts = texts; text = text; are_downlinks = are; there = there; says = did.1 },
-      station_acts line link log before now stood inside craft refused burst (Heard line link place did.0) did.2 refl
+      station_acts line link log before now stood inside craft refused burst known (Heard line link place did.0) did.2 refl
           (λ other apart. heard_apart other line link place did.0 (other_link other link apart)) did.3 did.4,
-      no_entry line link log before now stood inside craft refused burst,
+      no_entry line link log before now stood inside craft refused burst known,
     ))
 
 -- a downlink isn't there
-pub downlink_missing : (line link : ℕ) (log : List Happening) (course : Course) → StandsBehind course log → (place : ℕ) (texts : List (List ℕ)) (count : ℕ) (end : End)
-    → AreDownlinks course.craft.setting course.craft.journal link texts → slice_get texts (place - 1) ≡ None → count ≡ length texts
-    → end ≡ ends_bad line code.Number count → Did false (receives course.craft.setting link place) line log course course (Some end)
-downlink_missing line link log course stood place texts count end are none counted is = (
+pub downlink_missing : (line link : ℕ) (log : List Happening) (before now : Course) → StandsBehind before log → now.craft ≡ before.craft
+    → now.stations.items ≡ before.stations.items → now.refused.items ≡ before.refused.items → now.burst.items ≡ before.burst.items → KnowsEnds now
+    → (place : ℕ) (texts : List (List ℕ)) (count : ℕ) (end : End) → AreDownlinks before.craft.setting before.craft.journal link texts
+    → slice_get texts (place - 1) ≡ None → count ≡ length texts → end ≡ ends_bad line code.Number count
+    → Did false (receives before.craft.setting link place) line log before now (Some end)
+downlink_missing line link log before now stood craft same refused burst known place texts count end are none counted is = (
   count,
   record { texts = texts; are_downlinks = are; none = none; counted = counted },
   is,
-  stood,
-  record { setting = refl; journal = sym (append-nil course.craft.journal); burst = refl },
+  finds before now log stood craft same refused burst known,
+  record {
+    setting = ap (λ (c : Aircraft). c.setting) craft;
+    journal = ap (λ (c : Aircraft). c.journal) craft ∙ sym (append-nil before.craft.journal);
+    burst = burst;
+  },
 )

@@ -1,13 +1,13 @@
 -- What the workers of a burst leave.
-use Rattle.std.proofs.Common.{◌≡◌, ◌<◌, ◌≤◌, ◌%◌, ◌==◌, ℕ, zero, suc, true, false, All, List, [], ◌∷◌, ◌++◌, filter, get_or, length, map, Result, Ok, Err, refl, sym, ap, ◌∙◌, subst, arith}
+use Rattle.std.proofs.Common.{◌≡◌, ◌<◌, ◌%◌, ◌==◌, ℕ, suc, All, List, [], ◌∷◌, ◌++◌, get_or, length, map, Result, Ok, Err, refl, sym, ap, ◌∙◌, subst, arith}
 use Rattle.std.specs.Prelude.{IsOk, OnOk}
-use Rattle.std.proofs.lemmas.List.Elements.{All-cons, All-filter, All-get_or, All-head, All-map, All-nil, All-tail}
+use Rattle.std.proofs.lemmas.List.Elements.{All-cons, All-filter, All-head, All-map, All-nil, All-tail}
 use Rattle.std.proofs.lemmas.Option.{slice_get-get_or}
 use Rattle.aircraft_core.specs.Aircraft.{Aircraft}
 use Rattle.aircraft_core.specs.Entries.{IsTakenBy}
 use Rattle.aircraft_core.specs.declared.entry.Entry.{Entry}
 use Rattle.link_threads.specs.Interleavings.{Interleaves}
-use Rattle.link_threads.specs.Passes.{IsLeftBy, IsNewPassOf, IsPassOf, PassState, SharedState}
+use Rattle.link_threads.specs.Passes.{IsLeftBy, IsNewPassOf, IsPassOf, SharedState}
 use Rattle.run_rules.specs.EarlierLines.{text_link}
 use Rattle.adsc_run.specs.Lists.{AreBusyLists, is_filled}
 use Rattle.adsc_run.specs.Workers.{HasWorked, HaveEntered, IsReady, entries_of, passes_in}

@@ -1,5 +1,5 @@
 -- Where a course stands in a run, and what a line makes of it (this project's profile).
-use Rattle.std.specs.Prelude.{◌≡◌, ◌≢◌, ◌-◌, ℕ, Bool, true, false, All, List, [], ◌∷◌, ◌++◌, length, Option, Some, None, slice_get, slice_set}
+use Rattle.std.specs.Prelude.{◌≡◌, ◌-◌, ℕ, Bool, true, false, All, List, [], ◌∷◌, ◌++◌, length, Option, Some, None, slice_get, slice_set}
 use Rattle.aircraft_core.specs.Downlinks.{AreDownlinks}
 use Rattle.aircraft_core.specs.Entries.{IsTakenBy}
 use Rattle.aircraft_core.specs.Setting.{Setting, address_of}
@@ -10,20 +10,26 @@ use Rattle.run_rules.specs.EarlierLines.{AreTaken}
 use Rattle.run_rules.specs.Happenings.{Happening, Heard, entries, refused_lines}
 use Rattle.run_rules.specs.Stages.{Step, does, receives, stops}
 use Rattle.run_rules.specs.declared.end.End.{End}
+use Rattle.adsc_run.specs.Outboxes.{AreFound}
 use Rattle.adsc_run.specs.Stations.{StationDid, StationStands, ends_bad}
 use Rattle.adsc_run.specs.declared.course.Course.{Course}
 use Rattle.adsc_run.specs.declared.station.Station.{Station}
 
 -- ---- behind a log
 
--- The course stands behind this log: each of its stations is that of its link, its refused texts are those of the log, and the
--- aircraft takes each entry that waits.
+-- The course knows the ends of those downlinks that it has found.
+abbrev pub KnowsEnds : Course → Type 0
+KnowsEnds course = AreFound course.craft.setting course.craft.journal course.downlink_ends.items
+
+-- The course stands behind this log: each of its stations is that of its link, its refused texts are those of the log, the aircraft
+-- takes each entry that waits, and the ends of downlinks that it keeps are right.
 pub record StandsBehind (course : Course) (log : List Happening) : Type 0 where
   pub count : length course.stations.items ≡ length course.craft.setting.addresses
   pub each : (link : ℕ) (station : Station) → slice_get course.stations.items link ≡ Some station
       → StationStands course.craft.setting link log station
   pub refused : course.refused.items ≡ refused_lines log
   pub waiting : All (IsTakenBy course.craft.setting) course.burst.items
+  pub found : KnowsEnds course
 
 -- ---- what a line makes of it
 
@@ -85,6 +91,7 @@ pub record HasEntered (workers : ℕ) (before now : Course) : Type 0 where
   pub setting : now.craft.setting ≡ before.craft.setting
   pub stations : now.stations ≡ before.stations
   pub refused : now.refused ≡ before.refused
+  pub ends : now.downlink_ends ≡ before.downlink_ends
   pub none : now.burst.items ≡ []
 
 -- ---- the stations

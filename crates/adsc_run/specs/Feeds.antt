@@ -4,6 +4,7 @@ use Rattle.std.specs.declared.option.Option.{Option}
 use Rattle.std.specs.Io.KnownBytes.{Consumes, IsAtEnd}
 use Rattle.adsc_io.specs.Inputs.{lines_before_limit}
 use Rattle.adsc_io.specs.Readers.{LinesRead, StandsIn}
+use Rattle.run_rules.specs.Readings.{ReadsLine}
 use Rattle.run_rules.specs.Runs.{IsScript, ReadsLines}
 use Rattle.run_rules.specs.declared.reading.Reading.{Reading}
 use Rattle.adsc_run.specs.Readable.{IsReadable}
@@ -31,6 +32,11 @@ abbrev pub IsNext : Option (List ℕ) → Option (List ℕ) → LinesRead → Li
 IsNext before now reader readings (next.Line reading) = HasRead before now reader (readings ++ reading ∷ [])
 IsNext before now reader readings next.End = IsWhole before readings false × IsAtEnd now
 IsNext before now reader readings next.Limit = IsWhole before readings true
+
+-- The line of this number is read so.
+abbrev pub IsReadAs : ℕ → List ℕ → Next → Type 0
+IsReadAs number line (next.Line reading) = ReadsLine number line reading
+IsReadAs number line found = ⊥
 
 -- A line that stands next was read.
 abbrev pub IsReadableNext : Next → Type 0

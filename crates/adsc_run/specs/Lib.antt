@@ -1,6 +1,7 @@
 pub mod Courses
 pub mod Feeds
 pub mod Lists
+pub mod Outboxes
 pub mod OutcomeTexts
 pub mod Outcomes
 pub mod Outgoing

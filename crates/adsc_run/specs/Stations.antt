@@ -6,14 +6,14 @@ use Rattle.centre_core.specs.declared.heard.Heard.{Heard}
 use Rattle.centre_core.specs.declared.heard.Heard.TheVariants as heard
 use Rattle.net_script.specs.declared.refusal.Code.{Code}
 use Rattle.run_rules.specs.Happenings.{Happening, Carried, Carries, Answers, SentMessage, history, is_centre, is_raw, sent_messages}
-use Rattle.run_rules.specs.Stages.{Step, does, receives, stops}
+use Rattle.run_rules.specs.Stages.{Step, does, stops}
 use Rattle.run_rules.specs.declared.end.End.{End}
 use Rattle.run_rules.specs.declared.end.End.TheVariants.{Bad}
 use Rattle.adsc_run.specs.declared.carried.SentText.{SentText}
 use Rattle.adsc_run.specs.declared.carried.SentText.TheVariants as texts
 use Rattle.adsc_run.specs.declared.outcome.CentreRow.{CentreRow}
 use Rattle.adsc_run.specs.declared.station.Role.{Role}
-use Rattle.adsc_run.specs.declared.station.Role.TheVariants.{Unused, Raw, Centre}
+use Rattle.adsc_run.specs.declared.station.Role.TheVariants.{Raw, Centre}
 use Rattle.adsc_run.specs.declared.station.Station.{Station}
 
 -- Whether an address of this role is raw, and whether it is a centre's.

@@ -1,5 +1,5 @@
 -- How far a script is carried out (this project's profile).
-use Rattle.std.specs.Prelude.{◌≡◌, ◌≢◌, ◌+◌, ◌≤◌, ℕ, Bool, true, false, List, [], ◌∷◌, ◌++◌, length, Option, Some, None, IfSome}
+use Rattle.std.specs.Prelude.{◌≡◌, ◌≢◌, ◌⊎◌, ◌+◌, ◌≤◌, ℕ, Bool, true, false, List, [], ◌∷◌, ◌++◌, length, Option, Some, None, IfSome}
 use Rattle.std.specs.Io.KnownBytes.{IsAtEnd}
 use Rattle.adsc_io.specs.Readers.{LinesRead}
 use Rattle.aircraft_core.specs.declared.entry.Entry.{Entry}
@@ -9,14 +9,14 @@ use Rattle.net_script.specs.declared.refusal.Code.TheVariants as code
 use Rattle.run_rules.specs.Lines.{line_step, step_of}
 use Rattle.run_rules.specs.EarlierLines.{HasGone, HasHead}
 use Rattle.run_rules.specs.Happenings.{Happening}
-use Rattle.run_rules.specs.Orders.{journal_of, line_order}
+use Rattle.run_rules.specs.Orders.{is_burst_line, journal_of, line_order}
 use Rattle.run_rules.specs.Runs.{IsAllowedOrder, IsScript, end_behind, Script, ScriptRun, ended_run, journal_at}
 use Rattle.run_rules.specs.Stages.{Stage, begun, flying, stops}
 use Rattle.run_rules.specs.declared.end.End.{End}
-use Rattle.run_rules.specs.declared.end.End.TheVariants.{Done}
+use Rattle.run_rules.specs.declared.end.End.TheVariants.{Done, Limit}
 use Rattle.run_rules.specs.declared.reading.Reading.{Reading}
-use Rattle.adsc_run.specs.Courses.{StandsBehind}
-use Rattle.adsc_run.specs.Feeds.{HasRead}
+use Rattle.adsc_run.specs.Courses.{Did, HasEntered, StandsBehind}
+use Rattle.adsc_run.specs.Feeds.{HasRead, IsNext, passed}
 use Rattle.adsc_run.specs.Stations.{ends_bad}
 use Rattle.adsc_run.specs.declared.course.Course.{Course}
 use Rattle.adsc_run.specs.declared.feed.Next.{Next}
@@ -103,7 +103,33 @@ pub record IsOver (workers : ℕ) (before now : Option (List ℕ)) (course : Cou
   pub ended : IfSome before (λ bytes. (script : Script) × IsScript bytes script × HasEnded workers script course end)
   pub done : end ≡ Done → IsAtEnd now
 
--- One line more was carried out, or the script ended.
+-- The run ends so, once what waits is entered.
+pub record IsEnding (workers : ℕ) (before now : Option (List ℕ)) (course : Course) (end : End) : Type 0 where
+  pub ended : (entered : Course) → HasEntered workers course entered
+      → IfSome before (λ bytes. (script : Script) × IsScript bytes script × HasEnded workers script entered end)
+  pub done : end ≡ Done → IsAtEnd now
+
+-- The lines of the source that were read are carried out, but for what stands next.
+pub record IsAtNext (workers : ℕ) (before now : Option (List ℕ)) (reader : LinesRead) (course : Course) (found : Next) : Type 0 where
+  pub readings : List Reading
+  pub stands : Stands workers readings course
+  pub few : length course.craft.setting.addresses ≤ 64
+  pub next : IsNext before now reader readings found
+  pub counted : reader.number ≡ length readings + passed found
+
+-- What stands next can be carried out: entries wait before nothing but a line of their burst.
+abbrev pub IsReadyFor : Course → Next → Type 0
+IsReadyFor course (next.Line reading) = (is_burst_line (Some reading) ≡ true) ⊎ (course.burst.items ≡ [])
+IsReadyFor course found = course.burst.items ≡ []
+
+-- One line more was carried out, or the run ends.
 abbrev pub IsCarriedOn : ℕ → Option (List ℕ) → Option (List ℕ) → LinesRead → Course → Option End → Type 0
 IsCarriedOn workers before now reader course None = IsUnderWay workers before now reader course
-IsCarriedOn workers before now reader course (Some end) = IsOver workers before now course end
+IsCarriedOn workers before now reader course (Some end) = IsEnding workers before now course end
+
+-- What stood next did its step: a line that of its letter; the end and the limit end the run.
+abbrev pub DidNext : Next → ℕ → List Happening → Course → Course → Option End → Type 0
+DidNext (next.Line reading) number log before now ended =
+    Did (is_burst_line (Some reading)) (step_of (flying before.craft.setting) log number reading) number log before now ended
+DidNext next.End number log before now ended = (ended ≡ Some Done) × (now ≡ before)
+DidNext next.Limit number log before now ended = (ended ≡ Some (Limit (number + 1))) × (now ≡ before)

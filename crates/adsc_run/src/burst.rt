@@ -14,6 +14,9 @@ use std::alloc::Global;
 use std::sync::Wait;
 use std::thread::Threads;
 
+/// The most entries that wait. A longer burst is entered in parts: an order that workers take part by part is one that they may take.
+pub(crate) const MOST_WAITING: usize = 4_096;
+
 /// Whether a line that is read so may stand in a burst: it is a `U` or a `B` line.
 pub(crate) fn is_burst(reading: &Reading) -> bool
     ensures { result ≡ is_burst_line (Some reading.now) }
@@ -46,6 +49,7 @@ impl Course {
             stations,
             refused,
             burst,
+            downlink_ends,
         } = self;
         let craft = enter_all(rt, alloc, workers, craft, burst, gate)?;
         Ok(Course {
@@ -53,6 +57,7 @@ impl Course {
             stations,
             refused,
             burst: Vec::new(alloc),
+            downlink_ends,
         })
     }
 }

@@ -1,7 +1,7 @@
 //! The lines of the centres.
 ghost use Rattle.std.specs.Prelude.{◌≡◌, ◌≢◌, ◌+◌, ◌-◌, ◌<◌, ◌≤◌, ℕ, List, [], ◌∷◌, ◌++◌, All, true, false, length, IfOk, IfErr, IsSome, OnOk, None, Some, slice_get};
 ghost use Rattle.run_rules.specs.Happenings.{Happening, is_raw, sent_messages};
-ghost use Rattle.adsc_run.specs.Courses.{Did, EndsWith, StandsBehind};
+ghost use Rattle.adsc_run.specs.Courses.{Did, EndsWith, KnowsEnds, StandsBehind};
 ghost use Rattle.adsc_requests.specs.Kind.{kind_in};
 ghost use Rattle.adsc_requests.specs.declared.kind.Kind.TheVariants as kinds;
 ghost use Rattle.net_script.specs.declared.line.Cancel.TheVariants as cancels;
@@ -13,7 +13,7 @@ use crate::carried::entry_of;
 use crate::course::Course;
 use crate::ending::bad_line;
 use crate::links::link_to;
-use crate::outbox::text_at;
+use crate::outbox::downlink_at;
 use crate::station::Role;
 use crate::stations::{ask_at, cancel_at, give_role, hear_at, role_at, sent_by};
 use acars_envelope::Address;
@@ -103,6 +103,7 @@ impl Course {
     ) -> Result<Option<End>, NoMemory>
         requires few { length self.old.craft.setting.addresses ≤ 64 }
         requires count { length self.old.stations.items ≡ length self.old.craft.setting.addresses }
+        requires ends { KnowsEnds self.old }
         requires place { 1 ≤ place }
         ensures { (log : List Happening) → StandsBehind self.old log → IfOk result (Did false (flight_step self.old.craft.setting log line (line_values.R address place)) line log self.old self.new) }
     {
@@ -116,11 +117,13 @@ impl Course {
     fn receive_from(&mut self, line: u32, link: u8, place: u32) -> Result<Option<End>, NoMemory>
         requires link { link < length self.old.craft.setting.addresses }
         requires count { length self.old.stations.items ≡ length self.old.craft.setting.addresses }
+        requires ends { KnowsEnds self.old }
         requires place { 1 ≤ place }
         ensures { (log : List Happening) → StandsBehind self.old log → is_raw link log ≡ false
             → IfOk result (Did false (receives self.old.craft.setting link place) line log self.old self.new) }
     {
-        match text_at(self.craft.outbox(link as usize), place) {
+        let outbox = self.craft.outbox(link as usize);
+        match downlink_at(&mut self.downlink_ends, link, outbox, place)? {
             Ok(text) => hear_at(&mut self.stations, link, text),
             Err(count) => Ok(Some(bad_line(line, Code::Number, count))),
         }

@@ -9,6 +9,7 @@ ghost use Rattle.adsc_run.specs.Outcomes.{AreCentres};
 ghost use Rattle.adsc_run.specs.Stations.{StationStands, row_of as row_of_station, rows_of};
 ghost use Rattle.adsc_run.specs.declared.station.Station.{Station as StationValue};
 
+use crate::outbox::{TextEnds, no_ends};
 use crate::outcome::{CentreRow, Outcome};
 use crate::station::{Role, Station};
 use adsc_io::NoMemory;
@@ -16,13 +17,15 @@ use aircraft_core::{Craft, Entry};
 use run_rules::{End, RefusedLine, RefusedWhy};
 use std::alloc::Global;
 
-/// An aircraft that flies, a station for each of its links, the refused texts, and the entries of the burst that isn't entered yet.
+/// An aircraft that flies, a station for each of its links, the refused texts, the entries of the burst that isn't entered yet, and for
+/// each link where those of its downlinks end that were found.
 #[derive(Drop)]
 pub(crate) struct Course {
     pub(crate) craft: Craft,
     pub(crate) stations: Vec<Station>,
     pub(crate) refused: Vec<RefusedLine>,
     pub(crate) burst: Vec<Entry>,
+    pub(crate) downlink_ends: Vec<TextEnds>,
 }
 
 impl Course {
@@ -33,11 +36,13 @@ impl Course {
         ensures stands { IfOk result (λ course. StandsBehind course []) }
     {
         let stations = stations_of(alloc, &craft)?;
+        let downlink_ends = no_ends(alloc, craft.links())?;
         Ok(Course {
             craft,
             stations,
             refused: Vec::new(alloc),
             burst: Vec::new(alloc),
+            downlink_ends,
         })
     }
 

@@ -2,13 +2,10 @@
 ghost use Rattle.std.specs.Prelude.{◌≡◌, ◌≢◌, ◌+◌, ◌≤◌, ℕ, List, false, IfOk, Err};
 ghost use Rattle.std.specs.declared.option.Option.{Option as OptionValue};
 ghost use Rattle.adsc_io.specs.Causes.{Rose};
-ghost use Rattle.adsc_io.specs.Lines.{IsUnbroken};
 ghost use Rattle.adsc_io.specs.Readers.{StandsIn};
 ghost use Rattle.adsc_io.specs.declared.limits.TheConstants.{MAX_SCRIPT_LINES};
-ghost use Rattle.run_rules.specs.Readings.{ReadsLine};
 ghost use Rattle.run_rules.specs.declared.reading.Reading.{Reading as ReadingValue};
 ghost use Rattle.adsc_run.specs.Feeds.{HasRead, IsNext, IsReadableNext, passed};
-ghost use Rattle.adsc_run.specs.declared.feed.Next.TheVariants as next_values;
 
 use crate::fault::RunFault;
 use crate::reading::read_line;
@@ -70,7 +67,12 @@ impl Feed {
         ensures kept { result ≢ Err RunFault.Read → S.faults source.new ≡ S.faults source.old }
     {
         match self.lines.next(source) {
-            Ok(Line::Text) => self.read(),
+            Ok(Line::Text) => read_line(
+                &mut self.samples,
+                self.alloc,
+                self.lines.number(),
+                self.lines.text(),
+            ),
             Ok(Line::TooLong) => Ok(Next::Line(Reading::Bad {
                 code: Code::Long,
                 value: MAX_LINE_BYTES as u32,
@@ -78,24 +80,6 @@ impl Feed {
             Ok(Line::End) => Ok(Next::End),
             Ok(Line::Limit { .. }) => Ok(Next::Limit),
             Err(ReadFault) => Err(RunFault::Read),
-        }
-    }
-
-    /// Reads the line that the source gave.
-    fn read(&mut self) -> Result<Next, RunFault>
-        requires { IsUnbroken self.old.lines.text }
-        ensures reads { IfOk result (λ next. (reading : ReadingValue) × (next ≡ next_values.Line reading) × ReadsLine self.old.lines.number self.old.lines.text reading) }
-        ensures same { self.new.lines ≡ self.old.lines }
-        ensures unread { result ≢ Err RunFault.Read }
-    {
-        match read_line(
-            &mut self.samples,
-            self.alloc,
-            self.lines.number(),
-            self.lines.text(),
-        ) {
-            Ok(reading) => Ok(Next::Line(reading)),
-            Err(NoMemory) => Err(RunFault::NoMemory),
         }
     }
 }

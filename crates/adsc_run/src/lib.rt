@@ -3,7 +3,7 @@
 //!
 //! [`run_script`] reads a line, judges it and carries it out before it reads the next: the aircraft takes texts, samples, ticks and
 //! acts of the crew, and the centres of its links ask, cancel and hear. The entries of a burst of `U` and `B` lines are entered before
-//! the next other line, by workers on threads of their own. Its answer is the [`Outcome`], and [`write_outcome`] writes that out and
+//! the next other line, by workers that run at once. Its answer is the [`Outcome`], and [`write_outcome`] writes that out and
 //! takes no memory. Both are promised in the words of `run_rules`: the outcome is that of the script under an order that so many
 //! workers may take. Scripts and outputs are this project's profile.
 //!
@@ -44,6 +44,5 @@ pub use fault::RunFault;
 pub use gate::{Free, Gate};
 pub use outcome::{CentreRow, Outcome};
 pub use output::write_outcome;
-pub use reading::read_line;
 pub use run::run_script;
 pub use run_rules::{End, RefusedLine, RefusedWhy};

@@ -1,7 +1,7 @@
 //! The lines of the flight, and where each line goes.
 ghost use Rattle.std.specs.Prelude.{◌≡◌, ◌≢◌, ◌+◌, ◌-◌, ◌<◌, ◌≤◌, ℕ, List, [], ◌∷◌, ◌++◌, All, true, false, length, IfOk, IfErr, OnOk, None, Some, slice_get};
 ghost use Rattle.run_rules.specs.Happenings.{Happening};
-ghost use Rattle.adsc_run.specs.Courses.{Did, StandsBehind};
+ghost use Rattle.adsc_run.specs.Courses.{Did, KnowsEnds, StandsBehind};
 ghost use Rattle.net_script.specs.declared.line.ScriptLine.TheVariants as line_values;
 ghost use Rattle.run_rules.specs.Lines.{flight_step, step_of};
 ghost use Rattle.run_rules.specs.Orders.{is_burst_line};
@@ -20,15 +20,16 @@ use run_rules::{End, Reading};
 
 impl Course {
     /// Carries out the line of this number, which was read so; answers how the run ends with it, if it does.
-    pub(crate) fn take(&mut self, line: u32, reading: Reading) -> Result<Option<End>, NoMemory>
+    pub(crate) fn take(&mut self, line: u32, reading: &Reading) -> Result<Option<End>, NoMemory>
         requires few { length self.old.craft.setting.addresses ≤ 64 }
         requires count { length self.old.stations.items ≡ length self.old.craft.setting.addresses }
-        requires readable { IsReadable reading }
-        ensures { (log : List Happening) → StandsBehind self.old log → IfOk result (Did (is_burst_line (Some reading)) (step_of (flying self.old.craft.setting) log line reading) line log self.old self.new) }
+        requires ends { KnowsEnds self.old }
+        requires readable { IsReadable reading.now }
+        ensures { (log : List Happening) → StandsBehind self.old log → IfOk result (Did (is_burst_line (Some reading.now)) (step_of (flying self.old.craft.setting) log line reading.now) line log self.old self.new) }
     {
         match reading {
-            Reading::Bad { code, value } => Ok(Some(bad_line(line, code, value))),
-            Reading::Says(value) => self.take_value(line, &value),
+            Reading::Bad { code, value } => Ok(Some(bad_line(line, *code, *value))),
+            Reading::Says(value) => self.take_value(line, value),
             Reading::Brings(text) => self.take_text(line, text),
         }
     }
@@ -37,6 +38,7 @@ impl Course {
     fn take_value(&mut self, line: u32, value: &ScriptLine) -> Result<Option<End>, NoMemory>
         requires few { length self.old.craft.setting.addresses ≤ 64 }
         requires count { length self.old.stations.items ≡ length self.old.craft.setting.addresses }
+        requires ends { KnowsEnds self.old }
         requires readable { SaysRightly value.now }
         ensures { (log : List Happening) → StandsBehind self.old log → IfOk result (Did (is_burst_line (Some (Says value.now))) (flight_step self.old.craft.setting log line value.now) line log self.old self.new) }
     {

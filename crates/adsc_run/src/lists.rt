@@ -7,6 +7,20 @@ use adsc_io::NoMemory;
 use aircraft_core::Entry;
 use std::alloc::Global;
 
+/// Whether one of so many workers takes all of these entries.
+pub(crate) fn are_of_one(workers: u8, burst: &[Entry]) -> bool
+    requires { 1 ≤ workers }
+{
+    match burst {
+        [] => true,
+        [first, rest @ ..] => {
+            let worker = text_link(first) % workers;
+            rest.iter()
+                .all(|entry| text_link(entry) % workers == worker)
+        }
+    }
+}
+
 /// What each of so many workers takes of these entries, in order; there is no list of a worker that takes none.
 pub(crate) fn busy_lists(
     alloc: Global,

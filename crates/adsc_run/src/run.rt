@@ -1,18 +1,18 @@
 //! The run of a script, from its source to its outcome.
-ghost use Rattle.std.specs.Prelude.{◌≡◌, ◌≢◌, ◌+◌, ◌≤◌, ℕ, true, All, List, length, IfOk, IfSome, Err, None, Some};
+ghost use Rattle.std.specs.Prelude.{◌≡◌, ◌≢◌, ◌<◌, ◌≤◌, ℕ, true, false, All, List, length, IfOk, IfSome, Err};
 ghost use Rattle.std.specs.declared.option.Option.{Option as OptionValue};
 ghost use Rattle.std.specs.Io.KnownBytes.{IsAtEnd};
 ghost use Rattle.adsc_io.specs.Causes.{Rose};
-ghost use Rattle.run_rules.specs.Orders.{is_burst_line};
+ghost use Rattle.adsc_io.specs.declared.limits.TheConstants.{MAX_SCRIPT_LINES};
+ghost use Rattle.run_rules.specs.Happenings.{Happening};
 ghost use Rattle.run_rules.specs.declared.end.End.TheVariants.{Done};
-ghost use Rattle.run_rules.specs.declared.reading.Reading.{Reading as ReadingValue};
 ghost use Rattle.aircraft_core.specs.Entries.{IsTakenBy};
-ghost use Rattle.adsc_run.specs.Courses.{HasEntered};
+ghost use Rattle.adsc_run.specs.Courses.{KnowsEnds, StandsBehind};
+ghost use Rattle.adsc_run.specs.Feeds.{IsReadableNext};
 ghost use Rattle.adsc_run.specs.Outcomes.{IsOutcome};
-ghost use Rattle.adsc_run.specs.Readable.{IsReadable};
-ghost use Rattle.adsc_run.specs.UnderWay.{CarriedOut, EndsInHead, IsCarriedOn, IsOver, IsUnderWay, Stands};
+ghost use Rattle.adsc_run.specs.UnderWay.{DidNext, EndsInHead, IsEnding, IsReadyFor, IsUnderWay};
 
-use crate::burst::is_burst;
+use crate::burst::{MOST_WAITING, is_burst};
 use crate::course::Course;
 use crate::fault::RunFault;
 use crate::feed::{Feed, Next};
@@ -20,16 +20,16 @@ use crate::gate::Gate;
 use crate::head::{Stop, read_head};
 use crate::outcome::Outcome;
 use adsc_io::{NoMemory, Source};
-use run_rules::{End, Reading};
+use run_rules::End;
 use std::alloc::Global;
 use std::sync::Wait;
 use std::thread::Threads;
 
 /// Reads a script from a source and runs it.
 ///
-/// It reads a line, judges it and carries it out before it reads the next one, so it holds no more of the script than one line and
-/// one piece. The entries of a burst of `U` and `B` lines are taken by so many workers, those of the address at place `j` by worker
-/// `j mod workers`, each before and after a call of the gate.
+/// It reads a line, judges it and carries it out before it reads the next one, so it holds no more of the script than one line, one
+/// piece, and the entries of a burst that wait. The entries of a burst of `U` and `B` lines are taken by so many workers, those of the
+/// address at place `j` by worker `j mod workers`, each between two calls of the gate.
 ///
 /// The outcome is that of the script under an order that so many workers may take. `Read` comes only where the source's count of
 /// faults rose in this call; `NoMemory` is free. This project's profile.
@@ -54,20 +54,10 @@ pub fn run_script<R: Threads + Wait + Sync, S: Source, G: Gate>(
         Err(Stop::Ended(end)) => return Ok(without_craft(alloc, end)),
         Err(Stop::Fault(fault)) => return Err(fault),
     };
-    let Ok(mut course) = Course::new(alloc, craft) else {
+    let Ok(course) = Course::new(alloc, craft) else {
         return Err(RunFault::NoMemory);
     };
-    loop {
-        match course.fly_on(rt, alloc, workers, &mut feed, source, gate) {
-            Ok((flown, end)) => {
-                course = flown;
-                if let Some(end) = end {
-                    return course.outcome(alloc, end);
-                }
-            }
-            Err(fault) => return Err(fault),
-        }
-    }
+    course.fly(rt, alloc, workers, &mut feed, source, gate)
 }
 
 /// The outcome of a run that ends so in its head.
@@ -84,131 +74,94 @@ fn without_craft(alloc: Global, end: End) -> Outcome
 }
 
 impl Course {
-    /// Carries out the next line; answers how the run ends, if it does.
-    fn fly_on<R: Threads + Wait + Sync, S: Source, G: Gate>(
-        mut self,
+    /// Carries out the lines behind the head, one after the other, up to the end of the run.
+    fn fly<R: Threads + Wait + Sync, S: Source, G: Gate>(
+        self,
         rt: &R,
         alloc: Global,
         workers: u8,
         feed: &mut Feed,
         source: &mut S,
         gate: &G,
-    ) -> Result<(Course, Option<End>), RunFault>
+    ) -> Result<Outcome, RunFault>
         requires some { 1 ≤ workers }
         requires most { workers ≤ 5 }
         requires under_way { (before : OptionValue (List ℕ)) × IsUnderWay workers before (S.left source.old) feed.old.lines self }
-        ensures on { IfOk result (λ flown. (before : OptionValue (List ℕ)) → IsUnderWay workers before (S.left source.old) feed.old.lines self
-            → IsCarriedOn workers before (S.left source.new) feed.new.lines flown.0 flown.1) }
-        ensures number { IfOk result (λ flown. flown.1 ≡ None → feed.new.lines.number ≡ feed.old.lines.number + 1) }
+        ensures run { IfOk result (λ outcome. (before : OptionValue (List ℕ)) → IsUnderWay workers before (S.left source.old) feed.old.lines self
+            → IfSome before (λ bytes. IsOutcome bytes workers outcome)) }
+        ensures done { IfOk result (λ outcome. outcome.end ≡ Done → IsAtEnd (S.left source.new)) }
         ensures read { result ≡ Err RunFault.Read → Rose (S.faults source.old) (S.faults source.new) }
         ensures kept { result ≢ Err RunFault.Read → S.faults source.new ≡ S.faults source.old }
     {
-        let next = feed.next(source)?;
-        match next {
-            Next::Line(reading) => {
-                match self.carry_out(rt, alloc, workers, feed.number(), reading, gate) {
-                    Ok(flown) => Ok(flown),
-                    Err(NoMemory) => Err(RunFault::NoMemory),
-                }
+        let mut course = self;
+        let mut next = feed.next(source)?;
+        loop {
+            if course.must_enter(&next) {
+                let Ok(entered) = course.enter_burst(rt, alloc, workers, gate) else {
+                    return Err(RunFault::NoMemory);
+                };
+                course = entered;
+                continue;
             }
-            Next::End => self.end(rt, alloc, workers, End::Done, gate),
-            Next::Limit => {
-                let line = feed.number() + 1;
-                self.end(rt, alloc, workers, End::Limit { line }, gate)
+            match course.carry_out(feed.number(), &next) {
+                Ok(None) => next = feed.next(source)?,
+                Ok(Some(end)) => return course.finish(rt, alloc, workers, end, gate),
+                Err(NoMemory) => return Err(RunFault::NoMemory),
             }
         }
     }
 
-    /// Enters the burst at the end of the script, which is this.
-    fn end<R: Threads + Wait + Sync, G: Gate>(
+    /// Whether the entries that wait are entered before what stands next: before anything but a line of their burst, and where they
+    /// are as many as may wait.
+    fn must_enter(&self, next: &Next) -> bool
+        ensures waits { result ≡ true → 0 < length self.now.burst.items }
+        ensures ready { result ≡ false → IsReadyFor self.now next.now }
+    {
+        match next {
+            Next::Line(reading) if is_burst(reading) => self.burst.len() >= MOST_WAITING,
+            _ => !self.burst.is_empty(),
+        }
+    }
+
+    /// Carries out what stands next, behind the line of this number or as that line; answers how the run ends with it, if it does.
+    fn carry_out(&mut self, number: u32, next: &Next) -> Result<Option<End>, NoMemory>
+        requires few { length self.old.craft.setting.addresses ≤ 64 }
+        requires count { length self.old.stations.items ≡ length self.old.craft.setting.addresses }
+        requires ends { KnowsEnds self.old }
+        requires readable { IsReadableNext next.now }
+        requires number { number ≤ MAX_SCRIPT_LINES }
+        ensures { (log : List Happening) → StandsBehind self.old log → IfOk result (DidNext next.now number log self.old self.new) }
+    {
+        match next {
+            Next::Line(reading) => self.take(number, reading),
+            Next::End => Ok(Some(End::Done)),
+            Next::Limit => Ok(Some(End::Limit { line: number + 1 })),
+        }
+    }
+
+    /// The outcome of a run that ends so, once what waits is entered.
+    fn finish<R: Threads + Wait + Sync, G: Gate>(
         self,
         rt: &R,
         alloc: Global,
         workers: u8,
         end: End,
         gate: &G,
-    ) -> Result<(Course, Option<End>), RunFault>
+    ) -> Result<Outcome, RunFault>
         requires some { 1 ≤ workers }
         requires most { workers ≤ 5 }
         requires taken { All (IsTakenBy self.craft.setting) self.burst.items }
-        ensures end { IfOk result (λ flown. (flown.1 ≡ Some end) × HasEntered workers self flown.0) }
-        ensures unread { result ≢ Err RunFault.Read }
-    {
-        match self.enter_burst(rt, alloc, workers, gate) {
-            Ok(entered) => Ok((entered, Some(end))),
-            Err(NoMemory) => Err(RunFault::NoMemory),
-        }
-    }
-
-    /// The outcome of a run that ends so.
-    fn outcome(self, alloc: Global, end: End) -> Result<Outcome, RunFault>
-        ensures run { IfOk result (λ outcome. (workers : ℕ) (before now : OptionValue (List ℕ)) → IsOver workers before now self end
+        ensures run { IfOk result (λ outcome. (before now : OptionValue (List ℕ)) → IsEnding workers before now self end
             → IfSome before (λ bytes. IsOutcome bytes workers outcome)) }
         ensures end { IfOk result (λ outcome. outcome.end ≡ end) }
         ensures unread { result ≢ Err RunFault.Read }
     {
-        match self.ended(alloc, end) {
+        let Ok(entered) = self.enter_burst(rt, alloc, workers, gate) else {
+            return Err(RunFault::NoMemory);
+        };
+        match entered.ended(alloc, end) {
             Ok(outcome) => Ok(outcome),
             Err(NoMemory) => Err(RunFault::NoMemory),
-        }
-    }
-
-    /// Carries out the line of this number, which was read so; answers how the run ends with it, if it does.
-    ///
-    /// The burst before a line that stands in none is entered first, and so is that before a line that ends the run.
-    fn carry_out<R: Threads + Wait + Sync, G: Gate>(
-        self,
-        rt: &R,
-        alloc: Global,
-        workers: u8,
-        number: u32,
-        reading: Reading,
-        gate: &G,
-    ) -> Result<(Course, Option<End>), NoMemory>
-        requires some { 1 ≤ workers }
-        requires most { workers ≤ 5 }
-        requires few { length self.craft.setting.addresses ≤ 64 }
-        requires stands { (readings : List ReadingValue) × Stands workers readings self }
-        requires readable { IsReadable reading }
-        ensures done { IfOk result (λ flown. (readings : List ReadingValue) → number ≡ length readings + 1 → Stands workers readings self
-            → CarriedOut workers readings reading flown.0 flown.1) }
-        ensures setting { IfOk result (λ flown. flown.0.craft.setting ≡ self.craft.setting) }
-    {
-        if is_burst(&reading) {
-            return self.carry_out_in_burst(rt, alloc, workers, number, reading, gate);
-        }
-        let mut entered = self.enter_burst(rt, alloc, workers, gate)?;
-        let end = entered.take(number, reading)?;
-        Ok((entered, end))
-    }
-
-    /// Carries out a line of a burst. Where it ends the run, the burst before it is entered.
-    fn carry_out_in_burst<R: Threads + Wait + Sync, G: Gate>(
-        mut self,
-        rt: &R,
-        alloc: Global,
-        workers: u8,
-        number: u32,
-        reading: Reading,
-        gate: &G,
-    ) -> Result<(Course, Option<End>), NoMemory>
-        requires some { 1 ≤ workers }
-        requires most { workers ≤ 5 }
-        requires few { length self.craft.setting.addresses ≤ 64 }
-        requires stands { (readings : List ReadingValue) × Stands workers readings self }
-        requires readable { IsReadable reading }
-        requires burst { is_burst_line (Some reading) ≡ true }
-        ensures done { IfOk result (λ flown. (readings : List ReadingValue) → number ≡ length readings + 1 → Stands workers readings self
-            → CarriedOut workers readings reading flown.0 flown.1) }
-        ensures setting { IfOk result (λ flown. flown.0.craft.setting ≡ self.craft.setting) }
-    {
-        let end = self.take(number, reading)?;
-        match end {
-            None => Ok((self, None)),
-            Some(end) => {
-                let entered = self.enter_burst(rt, alloc, workers, gate)?;
-                Ok((entered, Some(end)))
-            }
         }
     }
 }

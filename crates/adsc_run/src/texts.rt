@@ -16,6 +16,7 @@ use crate::stations::{give_role, role_at};
 use adsc_io::NoMemory;
 use afn_logon::{AfnRefusal, Answer};
 use aircraft_core::Entry;
+use arrayvec::ArrayVec;
 use ground_texts::{AdsUplink, AfnUplink, GroundText};
 use net_script::Code;
 use run_rules::{End, RefusedWhy};
@@ -32,25 +33,29 @@ const FLIGHT_PLACE: u32 = 16;
 impl Course {
     /// Takes a text from the ground, or refuses it: by its envelope, then by its address; then by its registration and its
     /// payload, or by its answer and the registration of that. What is taken may not come from a centre's address.
-    pub(crate) fn take_text(&mut self, line: u32, text: GroundText) -> Result<Option<End>, NoMemory>
+    pub(crate) fn take_text(
+        &mut self,
+        line: u32,
+        text: &GroundText,
+    ) -> Result<Option<End>, NoMemory>
         requires few { length self.old.craft.setting.addresses ≤ 64 }
         requires count { length self.old.stations.items ≡ length self.old.craft.setting.addresses }
-        requires read { IsReadText text }
-        ensures { (log : List Happening) → StandsBehind self.old log → IfOk result (Did true (text_step self.old.craft.setting log line text) line log self.old self.new) }
+        requires read { IsReadText text.now }
+        ensures { (log : List Happening) → StandsBehind self.old log → IfOk result (Did true (text_step self.old.craft.setting log line text.now) line log self.old self.new) }
     {
         match text {
-            GroundText::Refused(fault) => self.refuse(line, RefusedWhy::Envelope(fault)),
+            GroundText::Refused(fault) => self.refuse(line, RefusedWhy::Envelope(*fault)),
             GroundText::Afn(notice) => self.take_notice(line, notice),
             GroundText::Ads(uplink) => self.take_uplink(line, uplink),
         }
     }
 
     /// Takes an uplink to a link of the aircraft, or refuses it.
-    fn take_uplink(&mut self, line: u32, uplink: AdsUplink) -> Result<Option<End>, NoMemory>
+    fn take_uplink(&mut self, line: u32, uplink: &AdsUplink) -> Result<Option<End>, NoMemory>
         requires few { length self.old.craft.setting.addresses ≤ 64 }
         requires count { length self.old.stations.items ≡ length self.old.craft.setting.addresses }
-        requires read { IsReadUplink uplink }
-        ensures { (log : List Happening) → StandsBehind self.old log → IfOk result (Did true (uplink_step self.old.craft.setting log line uplink (link_to self.old.craft.setting uplink.address)) line log self.old self.new) }
+        requires read { IsReadUplink uplink.now }
+        ensures { (log : List Happening) → StandsBehind self.old log → IfOk result (Did true (uplink_step self.old.craft.setting log line uplink.now (link_to self.old.craft.setting uplink.now.address)) line log self.old self.new) }
     {
         let Some(link) = link_of(&self.craft, uplink.address) else {
             return self.refuse(line, RefusedWhy::UnknownAddress);
@@ -67,16 +72,16 @@ impl Course {
     }
 
     /// Takes an answer to a logon on a link of the aircraft, or refuses it.
-    fn take_notice(&mut self, line: u32, notice: AfnUplink) -> Result<Option<End>, NoMemory>
+    fn take_notice(&mut self, line: u32, notice: &AfnUplink) -> Result<Option<End>, NoMemory>
         requires few { length self.old.craft.setting.addresses ≤ 64 }
         requires count { length self.old.stations.items ≡ length self.old.craft.setting.addresses }
-        requires read { IsReadAnswer notice.answer }
-        ensures { (log : List Happening) → StandsBehind self.old log → IfOk result (Did true (notice_step self.old.craft.setting log line notice (link_to self.old.craft.setting notice.address)) line log self.old self.new) }
+        requires read { IsReadAnswer notice.now.answer }
+        ensures { (log : List Happening) → StandsBehind self.old log → IfOk result (Did true (notice_step self.old.craft.setting log line notice.now (link_to self.old.craft.setting notice.now.address)) line log self.old self.new) }
     {
         let Some(link) = link_of(&self.craft, notice.address) else {
             return self.refuse(line, RefusedWhy::UnknownAddress);
         };
-        self.take_characters(line, link, notice.answer)
+        self.take_characters(line, link, &notice.answer)
     }
 
     /// Takes the characters of an AFN text, which were read so, or refuses them.
@@ -84,12 +89,12 @@ impl Course {
         &mut self,
         line: u32,
         link: u8,
-        answer: Result<Answer, AfnRefusal>,
+        answer: &Result<Answer, AfnRefusal>,
     ) -> Result<Option<End>, NoMemory>
         requires count { length self.old.stations.items ≡ length self.old.craft.setting.addresses }
         requires link { link < length self.old.craft.setting.addresses }
-        requires read { IsReadAnswer answer }
-        ensures { (log : List Happening) → StandsBehind self.old log → IfOk result (Did true (characters_step self.old.craft.setting log line link answer) line log self.old self.new) }
+        requires read { IsReadAnswer answer.now }
+        ensures { (log : List Happening) → StandsBehind self.old log → IfOk result (Did true (characters_step self.old.craft.setting log line link answer.now) line log self.old self.new) }
     {
         match answer {
             Ok(answer) => self.take_answer(line, link, answer),
@@ -111,10 +116,10 @@ impl Course {
     }
 
     /// Enters an answer to a logon, or refuses it where it is for another aircraft.
-    fn take_answer(&mut self, line: u32, link: u8, answer: Answer) -> Result<Option<End>, NoMemory>
+    fn take_answer(&mut self, line: u32, link: u8, answer: &Answer) -> Result<Option<End>, NoMemory>
         requires count { length self.old.stations.items ≡ length self.old.craft.setting.addresses }
         requires link { link < length self.old.craft.setting.addresses }
-        ensures { (log : List Happening) → StandsBehind self.old log → IfOk result (Did true (answer_step self.old.craft.setting log line link answer) line log self.old self.new) }
+        ensures { (log : List Happening) → StandsBehind self.old log → IfOk result (Did true (answer_step self.old.craft.setting log line link answer.now) line log self.old self.new) }
     {
         if answer.registration == self.craft.registration() {
             let entry = Entry::Answer {
@@ -127,7 +132,7 @@ impl Course {
         self.refuse(
             line,
             RefusedWhy::OtherRegistration {
-                place: registration_place(&answer),
+                place: registration_place(answer),
             },
         )
     }
@@ -137,25 +142,24 @@ impl Course {
         &mut self,
         line: u32,
         link: u8,
-        uplink: AdsUplink,
+        uplink: &AdsUplink,
     ) -> Result<Option<End>, NoMemory>
         requires count { length self.old.stations.items ≡ length self.old.craft.setting.addresses }
         requires link { link < length self.old.craft.setting.addresses }
-        requires read { IsReadUplink uplink }
-        ensures { (log : List Happening) → StandsBehind self.old log → IfOk result (Did true (takes log link (payload_happenings line (entries.Uplink line link uplink.octets) uplink.asked)) line log self.old self.new) }
+        requires read { IsReadUplink uplink.now }
+        ensures { (log : List Happening) → StandsBehind self.old log → IfOk result (Did true (takes log link (payload_happenings line (entries.Uplink line link uplink.now.octets) uplink.now.asked)) line log self.old self.new) }
     {
-        let AdsUplink { octets, asked, .. } = uplink;
         let entry = Entry::Uplink {
             line,
             link,
-            bytes: octets,
+            bytes: octets_of(uplink),
         };
         let end = self.take_on(line, link, entry)?;
-        match asked {
+        match &uplink.asked {
             Ok(_) => Ok(end),
             Err(refusal) => match end {
                 Some(_) => Ok(end),
-                None => self.refuse(line, RefusedWhy::Bits(refusal)),
+                None => self.refuse(line, RefusedWhy::Bits(*refusal)),
             },
         }
     }
@@ -174,6 +178,18 @@ impl Course {
         give_role(&mut self.stations, link, Role::Raw);
         self.join(entry)
     }
+}
+
+/// The octets of an uplink's payload, for the journal.
+fn octets_of(uplink: &AdsUplink) -> ArrayVec<u8, 255>
+    requires { IsReadUplink uplink.now }
+    ensures { result ≡ uplink.now.octets }
+{
+    let mut octets = ArrayVec::new();
+    octets
+        .try_extend_from_slice(uplink.octets.as_slice())
+        .unwrap();
+    octets
 }
 
 /// The place of the registration in the text of an answer: behind the flight and a comma.

@@ -1,4 +1,4 @@
-//! The workers of a burst, each of which takes its entries on a thread of its own.
+//! The workers of a burst, which take its entries at once: one of them on the thread of the run, each other on a thread of its own.
 ghost use Rattle.std.specs.Prelude.{◌≡◌, ◌≢◌, ℕ, ◌<◌, ◌≤◌, [], ◌++◌, All, length, map, IfOk, OnOk, IsOk, slice_index_or};
 ghost use Rattle.aircraft_core.specs.Entries.{IsTakenBy, line_of as line_of_entry};
 ghost use Rattle.link_threads.specs.Passes.{IsLeftBy, IsNewPassOf, IsPassOf};
@@ -7,7 +7,7 @@ ghost use Rattle.adsc_run.specs.Workers.{HasWorked, HaveEntered, IsReady, entrie
 ghost use Rattle.adsc_run.specs.declared.workers.Worker.{Worker as WorkerValue};
 
 use crate::gate::Gate;
-use crate::lists::busy_lists;
+use crate::lists::{are_of_one, busy_lists};
 use adsc_io::NoMemory;
 use aircraft_core::{Craft, Entry};
 use link_threads::{Pass, Shared};
@@ -16,8 +16,46 @@ use std::sync::Wait;
 use std::thread::Threads;
 use std::{mem, thread};
 
-/// Enters these entries into the craft's journal: each worker that takes any of them does so on a thread of its own.
+/// Enters these entries into the craft's journal, by those workers that take any of them. Where that is one, the craft isn't shared.
 pub(crate) fn enter_all<R: Threads + Wait + Sync, G: Gate>(
+    rt: &R,
+    alloc: Global,
+    workers: u8,
+    craft: Craft,
+    burst: Vec<Entry>,
+    gate: &G,
+) -> Result<Craft, NoMemory>
+    requires some { 1 ≤ workers }
+    requires most { workers ≤ 5 }
+    requires any { burst.items ≢ [] }
+    requires taken { All (IsTakenBy craft.setting) burst.items }
+    ensures { IfOk result (HaveEntered workers burst.items craft) }
+{
+    if are_of_one(workers, burst.as_slice()) {
+        return enter_in_order(craft, burst, gate);
+    }
+    enter_at_once(rt, alloc, workers, craft, burst, gate)
+}
+
+/// Enters these entries into the craft's journal in their order, each between two calls of the gate.
+fn enter_in_order<G: Gate>(craft: Craft, entries: Vec<Entry>, gate: &G) -> Result<Craft, NoMemory>
+    requires { All (IsTakenBy craft.setting) entries.items }
+    ensures journal { IfOk result (λ after. after.journal ≡ craft.journal ++ entries.items) }
+    ensures setting { IfOk result (λ after. after.setting ≡ craft.setting) }
+{
+    let mut craft = craft;
+    for entry in entries {
+        let line = line_of(&entry);
+        gate.before(line);
+        craft.reserve()?;
+        craft.apply(entry);
+        gate.after(line);
+    }
+    Ok(craft)
+}
+
+/// Enters these entries into the craft's journal, by workers that share the craft and run at once.
+fn enter_at_once<R: Threads + Wait + Sync, G: Gate>(
     rt: &R,
     alloc: Global,
     workers: u8,

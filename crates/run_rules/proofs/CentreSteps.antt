@@ -28,7 +28,7 @@ use Rattle.net_script.specs.declared.line.Cancel.{Cancel}
 use Rattle.net_script.specs.declared.line.Cancel.TheVariants.{Of, EmergencyMode, All}
 use Rattle.run_rules.specs.Among.{IsAmong}
 use Rattle.run_rules.specs.Claims.{CarriedBears, RowBears}
-use Rattle.run_rules.specs.Deeds.{IsDeed, MadeAsk}
+use Rattle.run_rules.proofs.Deeds.{IsDeed, MadeAsk}
 use Rattle.run_rules.specs.Happenings.{Happening, Entered, Refused, Asked, Cancelled, Brought, Heard, Carries, SentMessage, answer_sent, history, sent_in, with_cancel}
 use Rattle.run_rules.specs.Lines.{cancel_step, cancelling_step}
 use Rattle.run_rules.specs.Stages.{does}

@@ -19,7 +19,7 @@ use Rattle.contract_rules.specs.Verdicts.{past_of}
 use Rattle.contract_table.specs.Acts.{rules_message}
 use Rattle.run_rules.specs.Among.{IsAmong}
 use Rattle.run_rules.specs.Claims.{CarriedBears, HasAccepted, IsShownConfirmed, ItemBears, NoEarlyReuse, WasAccepted}
-use Rattle.run_rules.specs.Deeds.{AreDeeds, IsDeed, IsSettled, MadeHearing, bound_before}
+use Rattle.run_rules.proofs.Deeds.{AreDeeds, IsDeed, IsSettled, MadeHearing, bound_before}
 use Rattle.run_rules.specs.Happenings.{Happening, Entered, Refused, Asked, Cancelled, Brought, Heard, Carries, SentMessage, entries, history, is_raw, sent_in, sent_messages}
 use Rattle.run_rules.specs.Runs.{journal_at}
 use Rattle.run_rules.proofs.Acknowledged.{IsAnswered}

@@ -20,7 +20,7 @@ use Rattle.flight_samples.specs.declared.sample.Sample.{Sample as FlightSample}
 use Rattle.ground_texts.specs.Readings.{ReadsPayload}
 use Rattle.ground_texts.proofs.EachUplink.{each_payload}
 use Rattle.net_script.specs.declared.refusal.Code.TheVariants as code
-use Rattle.run_rules.specs.Deeds.{AreDeeds, IsDeed, MadeEntry, bound_before}
+use Rattle.run_rules.proofs.Deeds.{AreDeeds, IsDeed, MadeEntry, bound_before}
 use Rattle.run_rules.specs.Happenings.{Happening, Entered, Brought, Heard, Carried, Carries, Answers, entries, entry_in}
 use Rattle.run_rules.specs.Lines.{entry_with, step_of}
 use Rattle.run_rules.specs.Orders.{journal_of}

@@ -10,7 +10,7 @@ use Rattle.centre_core.specs.Hearing.{Hearing}
 use Rattle.net_script.specs.declared.refusal.Code.{Code}
 use Rattle.net_script.specs.declared.refusal.Code.TheVariants as code
 use Rattle.run_rules.specs.Among.{IsAmong}
-use Rattle.run_rules.specs.EarlierLines.{AreFrom, AreTaken, AreWorkersLists, HasGone, HasHead, IsWoven, LeadsOn, text_link}
+use Rattle.run_rules.specs.EarlierLines.{AreFrom, AreTaken, AreWorkersLists, HasGone, HasHead, LeadsOn, text_link}
 use Rattle.run_rules.specs.Happenings.{Happening, Heard, entries}
 use Rattle.run_rules.specs.Lines.{step_of}
 use Rattle.run_rules.specs.Orders.{IsOrderOf, IsOrdered, IsRising, is_burst_line, journal_of, line_order, place_on, reading_at}
@@ -24,7 +24,7 @@ use Rattle.run_rules.proofs.Journals.{entries-append, journal_before, journal_be
 use Rattle.run_rules.proofs.LineEntries.{NoneOrOne, OfLine, OnLink, one_of_burst_line, one_of_line}
 use Rattle.run_rules.proofs.Members.{among_back, among_front, among_map, among_mapped, among_parts}
 use Rattle.run_rules.proofs.Rising.{rising_behind}
-use Rattle.run_rules.proofs.Weaving.{StandsInBurst, burst_ordered, taken_rises, taken_was_waiting, waiting_is_taken, woven_is_taken}
+use Rattle.run_rules.proofs.Weaving.{IsWoven, StandsInBurst, burst_ordered, taken_rises, taken_was_waiting, waiting_is_taken, woven_is_taken}
 
 -- ---- one line of a run
 

@@ -16,7 +16,7 @@ use Rattle.contract_table.specs.Acts.{rules_message}
 use Rattle.flight_samples.specs.declared.sample.Sample.{Sample as FlightSample}
 use Rattle.run_rules.specs.Among.{IsAmong}
 use Rattle.run_rules.specs.Claims.{BringsNothingOlder, CarriedBears, HasAccepted, HearingBears, ItemBears, MadeDownlink, NoEarlyReuse, NoOtherRowBears, ask_count}
-use Rattle.run_rules.specs.Deeds.{AreDeeds, IsDeed, IsSettled, MadeAsk, MadeHearing, bound_before}
+use Rattle.run_rules.proofs.Deeds.{AreDeeds, IsDeed, IsSettled, MadeAsk, MadeHearing, bound_before}
 use Rattle.run_rules.specs.Happenings.{Happening, Entered, Refused, Asked, Cancelled, Brought, Heard, Carried, Carries, Answers, entries, entry_in, is_raw, sent_messages}
 use Rattle.run_rules.specs.Laws.{FewAsksReuseNothing}
 use Rattle.run_rules.specs.Lines.{entry_with}
@@ -244,7 +244,7 @@ few_reuse_nothing order setting number log addresses readings workers link settl
 
 -- The law, of the log of a run.
 pub few_asks_reuse_nothing : FewAsksReuseNothing
-few_asks_reuse_nothing bytes script order run workers setting link is runs allowed made ended few =
+few_asks_reuse_nothing bytes script order run workers setting link is runs allowed made few =
     let has = run_deeds bytes script order run setting is runs made in
     few_reuse_nothing order setting has.number run.log (addresses_in run.setting) script.readings workers link has.settled has.deeds (quiet_run script order run runs)
     allowed.ordered few

@@ -13,7 +13,7 @@ use Rattle.net_script.specs.Lines.{SaysAddresses, SaysWho}
 use Rattle.net_script.specs.declared.letter.Letter.TheVariants.{Ground}
 use Rattle.net_script.proofs.FieldsLaws.{field-drop}
 use Rattle.net_script.proofs.GroundLaws.{seven, seven_starred}
-use Rattle.run_rules.specs.Deeds.{IsSettled}
+use Rattle.run_rules.proofs.Deeds.{IsSettled}
 use Rattle.run_rules.specs.Stages.{setting_with}
 
 -- ---- who the aircraft is

@@ -4,6 +4,7 @@ pub mod Along
 pub mod Beginnings
 pub mod CentreSteps
 pub mod Confirmed
+pub mod Deeds
 pub mod EachHearing
 pub mod EachReading
 pub mod EachRun
@@ -16,6 +17,7 @@ pub mod HeardItems
 pub mod HeardLines
 pub mod HeldRows
 pub mod ItemSizes
+pub mod JournalLines
 pub mod Journals
 pub mod KnownActs
 pub mod LineEntries
@@ -50,6 +52,7 @@ pub mod WorkedBadLines
 pub mod WorkedBursts
 pub mod WorkedConfirmed
 pub mod WorkedHeads
+pub mod WorkedLines
 pub mod WorkedOldDownlink
 pub mod WorkedOldUplink
 pub mod WorkedOtherRow

@@ -25,7 +25,7 @@ use Rattle.contract_table.proofs.Sendable.{all_joined}
 use Rattle.flight_samples.specs.declared.sample.Sample.{Sample as FlightSample}
 use Rattle.run_rules.specs.Among.{IsAmong}
 use Rattle.run_rules.specs.Claims.{MadeDownlink}
-use Rattle.run_rules.specs.Deeds.{IsSettled}
+use Rattle.run_rules.proofs.Deeds.{IsSettled}
 use Rattle.run_rules.proofs.KnownActs.{AreKnown, IsKnown}
 use Rattle.run_rules.proofs.OwnTexts.{contact_tells_nothing, due_tells}
 

@@ -23,7 +23,7 @@ use Rattle.net_script.specs.declared.line.Cancel.{Cancel}
 use Rattle.net_script.specs.declared.line.Cancel.TheVariants.{Of, EmergencyMode, All}
 use Rattle.run_rules.specs.Among.{IsAmong}
 use Rattle.run_rules.specs.Claims.{CarriedBears, RowBears, ask_count}
-use Rattle.run_rules.specs.Deeds.{AreDeeds, IsDeed, MadeAsk, bound_before}
+use Rattle.run_rules.proofs.Deeds.{AreDeeds, IsDeed, MadeAsk, bound_before}
 use Rattle.run_rules.specs.Happenings.{Happening, Entered, Refused, Asked, Cancelled, Brought, Heard, Carries, SentMessage, history, sent_in, sent_messages, with_cancel}
 use Rattle.run_rules.proofs.CentreSteps.{ConfirmsGood, GoesOn, IsAsk, IsSpent, IsToCentre, asked_history, asked_sends, is_ask, to_centre}
 use Rattle.run_rules.proofs.CentreSteps.IsToCentre.{asks, goes}

@@ -1,9 +1,10 @@
 -- What each link gets, and so the whole run, is the same in each allowed order, where the aircraft has at most five links; and the order
 -- of the lines is allowed.
-use Rattle.std.proofs.Common.{◌≡◌, ◌⊎◌, ◌<◌, ◌≤◌, ◌%◌, ℕ, inl, inr, true, List, [], ◌∷◌, ◌++◌, filter, length, Some, None, refl, sym, ap, ◌∙◌, subst, arith, eqb-true}
+use Rattle.std.proofs.Common.{◌≡◌, ◌⊎◌, ◌+◌, ◌<◌, ◌≤◌, ◌%◌, ℕ, inl, inr, true, List, [], ◌∷◌, ◌++◌, filter, length, Some, None, refl, sym, ap, ◌∙◌, subst, arith, eqb-true}
 use Rattle.std.specs.Option.{ForSome}
 use Rattle.aircraft_core.specs.Downlinks.{AreDownlinks}
 use Rattle.aircraft_core.specs.Entries.{is_heard_by, line_of}
+use Rattle.aircraft_core.specs.LogonStates.{logon_state}
 use Rattle.aircraft_core.specs.Setting.{Setting}
 use Rattle.aircraft_core.specs.declared.entry.Entry.{Entry}
 use Rattle.aircraft_core.proofs.LogonLaws.{same_logon}
@@ -11,9 +12,12 @@ use Rattle.run_rules.specs.Among.{IsAmong}
 use Rattle.run_rules.specs.EarlierLines.{text_link}
 use Rattle.run_rules.specs.Happenings.{Happening, entries}
 use Rattle.run_rules.specs.Laws.{AgreesWithLineOrder}
+use Rattle.run_rules.specs.Output.{AreLinesOfLinks, AreLinkLines, IsEndText, downlink_lines, logon_line}
 use Rattle.run_rules.specs.Orders.{IsOrdered, IsRising, MayPass, is_burst_line, line_order, place_on, reading_at}
 use Rattle.run_rules.specs.Runs.{IsAllowedOrder, IsScript, Run, Script, ScriptRun, addresses_in, journal_at, setting_at}
 use Rattle.run_rules.specs.Stages.{Stage, begun, flying, linked, named}
+use Rattle.run_rules.specs.declared.end.End.{End}
+use Rattle.run_rules.specs.declared.end.End.TheVariants.{Done, Bad, Limit}
 use Rattle.run_rules.specs.declared.reading.Reading.{Reading}
 use Rattle.run_rules.proofs.FewLinks.{downlinks_carry, kept_first}
 use Rattle.run_rules.proofs.Journals.{entries-append}
@@ -107,6 +111,23 @@ line_journal run later log joined fits rises =
     rising_journal (line_order (entries run.log)) log fits rises
     (λ entry among. among_map line_of entry (entries run.log) (entry_at_end run later log joined entry among))
 
+-- ---- the lines of the output
+
+-- Where each link has the same downlinks and the same logon state, the lines of the links are the same.
+link_lines_agree : (setting : Setting) (one other : List Entry) (link : ℕ) (addresses : List (List ℕ)) (text : List ℕ)
+    → ((at : ℕ) (texts : List (List ℕ)) → at < link + length addresses → AreDownlinks setting one at texts → AreDownlinks setting other at texts)
+    → ((at : ℕ) → at < link + length addresses → logon_state at one ≡ logon_state at other)
+    → AreLinkLines setting one link addresses text → AreLinkLines setting other link addresses text
+link_lines_agree setting one other link [] text downlinks logons lines = lines
+link_lines_agree setting one other link (address ∷ addresses) text downlinks logons (texts, behind, are, more, spelled) = (
+  texts,
+  behind,
+  downlinks link texts (omega arith) are,
+  link_lines_agree setting one other (link + 1) addresses behind (λ at found below. downlinks at found (omega (arith, below)))
+      (λ at below. logons at (omega (arith, below))) more,
+  spelled ∙ ap (λ state. logon_line address state ++ (downlink_lines texts ++ behind)) (logons link (omega arith)),
+)
+
 -- ---- the law on orders
 
 some_same : {A : Type 0} (one other : A) → Some one ≡ Some other → one ≡ other
@@ -153,15 +174,38 @@ module _ (script : Script) (order : List ℕ) (run : Run) (workers : ℕ) (setti
     at_end : LogFits setting script.readings run.log under.count
     at_end = fits_flying under.last under.count under.setting under.fits
 
+    same_downlinks : (link : ℕ) (texts : List (List ℕ)) → AreDownlinks setting (journal_at order run.log) link texts → AreDownlinks setting (entries run.log) link texts
+    same_downlinks link texts are = gets_in_line setting script.readings workers order run.log under.count few kept at_end ordered allowed.lines.whole link texts are
+
+    same_logons : (link : ℕ) → logon_state link (journal_at order run.log) ≡ logon_state link (entries run.log)
+    same_logons link =
+        same_logon link (journal_at order run.log) (entries run.log)
+        (heard_in_line setting script.readings workers link order run.log under.count at_end ordered allowed.lines.whole)
+
+    in_line : journal_at (line_order (entries run.log)) run.log ≡ entries run.log
+    in_line = line_journal run [] run.log refl at_end at_end.rising
+
+    same_lines : (links : List ℕ) → AreLinesOfLinks run.setting (journal_at order run.log) links
+        → AreLinesOfLinks run.setting (journal_at (line_order (entries run.log)) run.log) links
+    same_lines links lines =
+        subst (λ journal. AreLinesOfLinks run.setting journal links) (sym in_line)
+        (subst (λ s. AreLinesOfLinks s (entries run.log) links) (sym flies)
+        (link_lines_agree setting (journal_at order run.log) (entries run.log) 0 setting.addresses links
+        (λ link texts below are. same_downlinks link texts are) (λ link below. same_logons link)
+        (subst (λ s. AreLinesOfLinks s (journal_at order run.log) links) flies lines)))
+
+    same_output : (end : End) (behind : List ℕ) → IsEndText order run end behind → IsEndText (line_order (entries run.log)) run end behind
+    same_output Done behind (links, lines, spelled) = (links, same_lines links lines, spelled)
+    same_output (Bad bad) behind spelled = spelled
+    same_output (Limit line) behind spelled = spelled
+
     pub agrees : AgreesWithLineOrder script order setting run
     agrees =
         record {
           runs = under.runs;
-          downlinks = λ link texts inside are.
-              gets_in_line setting script.readings workers order run.log under.count few kept at_end ordered allowed.lines.whole link texts are;
-          logons = λ link inside.
-              same_logon link (journal_at order run.log) (entries run.log)
-              (heard_in_line setting script.readings workers link order run.log under.count at_end ordered allowed.lines.whole);
+          downlinks = λ link texts inside are. same_downlinks link texts are;
+          logons = λ link inside. same_logons link;
+          output = same_output run.end;
         }
 
 pub orders_agree : (bytes : List ℕ) (script : Script) (order : List ℕ) (run : Run) (workers : ℕ) (setting : Setting) → IsScript bytes script

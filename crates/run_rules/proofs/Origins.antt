@@ -7,7 +7,7 @@ use Rattle.aircraft_core.specs.Setting.{Setting}
 use Rattle.aircraft_core.specs.declared.entry.Entry.{Entry}
 use Rattle.centre_core.specs.Hearing.{Hearing, Ignores, Greets, Tells}
 use Rattle.run_rules.specs.Among.{IsAmong}
-use Rattle.run_rules.specs.Deeds.{AreDeeds, IsDeed, bound_before}
+use Rattle.run_rules.proofs.Deeds.{AreDeeds, IsDeed, bound_before}
 use Rattle.run_rules.specs.Happenings.{Happening, Entered, Refused, Asked, Cancelled, Brought, Heard, Carried, Carries, Answers, SentMessage, answer_sent, entries, entry_in, is_raw, makes_raw, sent_in, sent_messages}
 use Rattle.run_rules.specs.Lines.{entry_with}
 use Rattle.run_rules.proofs.Members.{among_parts}

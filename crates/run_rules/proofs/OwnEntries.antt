@@ -27,7 +27,7 @@ use Rattle.ground_texts.proofs.EachUplink.{each_payload}
 use Rattle.ground_texts.specs.Readings.{ReadsPayload}
 use Rattle.run_rules.specs.Among.{IsAmong}
 use Rattle.run_rules.specs.Claims.{CarriedBears}
-use Rattle.run_rules.specs.Deeds.{AreDeeds, IsDeed, IsTakenText}
+use Rattle.run_rules.proofs.Deeds.{AreDeeds, IsDeed, IsTakenText}
 use Rattle.run_rules.specs.Happenings.{Happening, Entered, Refused, Asked, Cancelled, Brought, Heard, Carried, Carries, Answers, SentMessage, entries, entry_in, is_raw, makes_raw, sent_messages}
 use Rattle.run_rules.specs.Lines.{entry_with}
 use Rattle.run_rules.proofs.KnownActs.{AreKnown, IsKnown}

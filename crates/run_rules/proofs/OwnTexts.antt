@@ -19,7 +19,7 @@ use Rattle.contract_rules.specs.LiveLinks.{Noted}
 use Rattle.contract_rules.specs.Verdicts.{past_of}
 use Rattle.flight_samples.specs.Columns.{IsIn, latitudes, longitudes}
 use Rattle.flight_samples.specs.declared.sample.Sample.{Sample}
-use Rattle.run_rules.specs.Deeds.{IsSettled}
+use Rattle.run_rules.proofs.Deeds.{IsSettled}
 use Rattle.run_rules.proofs.KnownActs.{AreKnown, IsKnown, due_few, due_numbered, due_sendable, items_short}
 use Rattle.run_rules.proofs.OwnItems.{items_encode}
 

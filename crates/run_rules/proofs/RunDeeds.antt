@@ -26,7 +26,7 @@ use Rattle.net_script.specs.declared.line.Cancel.TheVariants.{Of, EmergencyMode,
 use Rattle.net_script.specs.declared.line.ScriptLine.{ScriptLine}
 use Rattle.net_script.specs.declared.line.ScriptLine.TheVariants as line
 use Rattle.net_script.specs.declared.refusal.Code.TheVariants as code
-use Rattle.run_rules.specs.Deeds.{AreDeeds, IsCentreLink, IsDeed, IsSettled, bound_before}
+use Rattle.run_rules.proofs.Deeds.{AreDeeds, IsCentreLink, IsDeed, IsSettled, bound_before}
 use Rattle.run_rules.specs.Happenings.{Happening, Entered, Refused, Asked, Cancelled, Brought, Heard, SentMessage, history, is_centre, is_raw, sent_messages}
 use Rattle.run_rules.specs.Lines.{as_centre, ask_step, asking_step, bring_step, bringing_step, cancel_step, cancelling_step, entry_with, flight_step, on_link, step_of}
 use Rattle.run_rules.specs.Readings.{ReadsLine}

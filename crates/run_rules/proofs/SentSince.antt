@@ -8,7 +8,7 @@ use Rattle.centre_core.specs.Histories.{effects, request_count}
 use Rattle.centre_core.proofs.TableLaws.{row_in-table_behind}
 use Rattle.run_rules.specs.Among.{IsAmong}
 use Rattle.run_rules.specs.Claims.{CarriedBears, NoOtherRowBears, RowBears, ask_count}
-use Rattle.run_rules.specs.Deeds.{AreDeeds, IsDeed, MadeAsk, bound_before}
+use Rattle.run_rules.proofs.Deeds.{AreDeeds, IsDeed, MadeAsk, bound_before}
 use Rattle.run_rules.specs.Happenings.{Happening, Entered, Refused, Asked, Cancelled, Brought, Heard, SentMessage, history, sent_in, sent_messages}
 use Rattle.run_rules.proofs.CentreSteps.{is_ask}
 use Rattle.run_rules.proofs.Members.{among_parts}

@@ -38,7 +38,7 @@ use Rattle.ground_texts.specs.declared.ground_text.GroundText.TheVariants as tex
 use Rattle.ground_texts.proofs.EachAnswer.{each_answer}
 use Rattle.net_script.specs.Addresses.{AreDifferent}
 use Rattle.run_rules.specs.Among.{IsAmong}
-use Rattle.run_rules.specs.Deeds.{AreDeeds, IsDeed, IsSettled, bound_before}
+use Rattle.run_rules.proofs.Deeds.{AreDeeds, IsDeed, IsSettled, bound_before}
 use Rattle.run_rules.specs.Happenings.{Happening, Entered, Refused, Asked, Cancelled, Brought, Heard, Carried, Carries, Answers, SentMessage, answer_sent, history, sent_in, sent_messages}
 use Rattle.run_rules.specs.Lines.{entry_with}
 use Rattle.run_rules.specs.Runs.{IsScript, Run, Script, ScriptRun}

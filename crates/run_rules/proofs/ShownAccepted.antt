@@ -5,7 +5,7 @@ use Rattle.aircraft_core.specs.Setting.{Setting}
 use Rattle.aircraft_core.specs.declared.entry.Entry.{Entry}
 use Rattle.centre_core.specs.Hearing.{Hearing}
 use Rattle.run_rules.specs.Among.{IsAmong}
-use Rattle.run_rules.specs.Deeds.{AreDeeds}
+use Rattle.run_rules.proofs.Deeds.{AreDeeds}
 use Rattle.run_rules.specs.Happenings.{Happening, Heard, entries}
 use Rattle.run_rules.specs.Laws.{WhatIsShownWasAccepted}
 use Rattle.run_rules.specs.Orders.{IsOrderOf, IsOrdered, journal_of}
@@ -73,7 +73,7 @@ all_begins order setting number log addresses readings workers deeds quiet order
 
 -- The law: the journal of the run has acts, and in it was accepted what is shown.
 pub what_is_shown_was_accepted : WhatIsShownWasAccepted
-what_is_shown_was_accepted bytes script order run workers setting link request is runs allowed made ended none shown =
+what_is_shown_was_accepted bytes script order run workers setting link request is runs allowed made none shown =
     let has = run_deeds bytes script order run setting is runs made in
     let acts = journal_acts setting.first (journal_at order run.log)
     (λ entry among. made_acts order setting has.number run.log entry has.deeds (journal_among order (entries run.log) entry among)) in

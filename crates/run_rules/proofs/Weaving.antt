@@ -5,11 +5,19 @@ use Rattle.std.proofs.lemmas.Option.{get_or_from_slice_get, slice_get-get_or, sl
 use Rattle.aircraft_core.specs.Entries.{line_of}
 use Rattle.aircraft_core.specs.declared.entry.Entry.{Entry}
 use Rattle.run_rules.specs.Among.{IsAmong}
-use Rattle.run_rules.specs.EarlierLines.{AreTaken, AreWorkersLists, IsWoven, taken_by, text_link}
+use Rattle.run_rules.specs.EarlierLines.{AreTaken, AreWorkersLists, taken_by, text_link}
 use Rattle.run_rules.specs.Orders.{IsOrdered, IsRising, MayPass, is_burst_line, line_order, place_on, reading_at}
 use Rattle.run_rules.specs.declared.reading.Reading.{Reading}
 use Rattle.run_rules.proofs.Members.{among_filter, among_map, among_mapped, filter_among}
 use Rattle.run_rules.proofs.Rising.{rising_filter}
+
+-- ---- weaving
+
+-- The lists are woven into this one: each of its entries was the first that was left of some list, and in the end none is left.
+abbrev pub IsWoven : List (List Entry) → List Entry → Type 0
+IsWoven lists [] = (worker : ℕ) (list : List Entry) → slice_get lists worker ≡ Some list → list ≡ []
+IsWoven lists (first ∷ woven) =
+    (worker : ℕ) × (rest : List Entry) × (slice_get lists worker ≡ Some (first ∷ rest)) × IsWoven (set lists worker rest) woven
 
 -- ---- what was taken is what waited
 

@@ -25,7 +25,7 @@ use Rattle.ground_texts.specs.declared.ground_text.AdsUplink.{AdsUplink}
 use Rattle.ground_texts.specs.declared.ground_text.GroundText.{GroundText}
 use Rattle.ground_texts.specs.declared.ground_text.GroundText.TheVariants as text
 use Rattle.net_script.specs.declared.refusal.Code.TheVariants as code
-use Rattle.run_rules.specs.Deeds.{IsSettled}
+use Rattle.run_rules.proofs.Deeds.{IsSettled}
 use Rattle.run_rules.specs.Happenings.{Happening, is_centre}
 use Rattle.run_rules.specs.Histories.Words.{aircraft_of, ground}
 use Rattle.run_rules.specs.Runs.{LinesRun, Run, StepRuns}

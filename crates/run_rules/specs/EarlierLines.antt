@@ -1,6 +1,6 @@
 -- How far a script was judged: what stands so far of its order, its entries and its log, while the lines are read one by one. Entries
 -- of a burst may wait, until its workers enter them. It serves the program's loop and its proof.
-use Rattle.std.specs.Prelude.{◌≡◌, ◌≤◌, ◌<◌, ◌+◌, ◌%◌, ◌==◌, ℕ, Bool, true, List, [], ◌∷◌, ◌++◌, filter, length, set, Some, slice_get}
+use Rattle.std.specs.Prelude.{◌≡◌, ◌≤◌, ◌<◌, ◌+◌, ◌%◌, ◌==◌, ℕ, Bool, true, List, [], ◌++◌, filter, length, Some, slice_get}
 use Rattle.aircraft_core.specs.Entries.{line_of}
 use Rattle.aircraft_core.specs.Setting.{Setting}
 use Rattle.aircraft_core.specs.declared.entry.Entry.{Entry}
@@ -29,12 +29,6 @@ pub record AreWorkersLists (workers : ℕ) (waiting : List Entry) (lists : List 
   pub some : 1 ≤ workers
   pub count : length lists ≡ workers
   pub each : (worker : ℕ) (list : List Entry) → slice_get lists worker ≡ Some list → list ≡ taken_by workers worker waiting
-
--- The lists are woven into this one: each of its entries was the first that was left of some list, and in the end none is left.
-abbrev pub IsWoven : List (List Entry) → List Entry → Type 0
-IsWoven lists [] = (worker : ℕ) (list : List Entry) → slice_get lists worker ≡ Some list → list ≡ []
-IsWoven lists (first ∷ woven) =
-    (worker : ℕ) × (rest : List Entry) × (slice_get lists worker ≡ Some (first ∷ rest)) × IsWoven (set lists worker rest) woven
 
 -- Workers took the waiting entries in this order: each took what it takes of them, in their order.
 abbrev pub AreTaken : ℕ → List Entry → List Entry → Type 0

@@ -3,6 +3,7 @@ pub mod Words
 pub mod Heads
 pub mod Confirmed
 pub mod Written
+pub mod Lines
 pub mod BadLines
 pub mod Bursts
 pub mod Reuse

@@ -9,7 +9,6 @@ pub mod Readings
 pub mod Runs
 pub mod Output
 pub mod Claims
-pub mod Deeds
 pub mod Laws
 pub mod EarlierLines
 pub mod SentTexts

@@ -21,7 +21,7 @@ use Rattle.centre_core.specs.declared.shown.Shown.TheVariants as shown
 use Rattle.output_fields.specs.Fields.{number_field}
 use Rattle.output_fields.specs.Faults.{envelope_fault_fields, request_fault_fields}
 use Rattle.run_rules.specs.Happenings.{Happening, history, is_centre, refused_lines}
-use Rattle.run_rules.specs.Runs.{Run, IsRun, journal_at}
+use Rattle.run_rules.specs.Runs.{Run, journal_at}
 use Rattle.run_rules.specs.declared.end.End.{End}
 use Rattle.run_rules.specs.declared.end.End.TheVariants.{Done, Bad, Limit}
 use Rattle.run_rules.specs.declared.refused.RefusedLine.{RefusedLine}
@@ -155,7 +155,3 @@ pub record IsRunText (order : List ℕ) (run : Run) (text : List ℕ) : Type 0 w
   pub behind : List ℕ
   pub is_end : IsEndText order run run.end behind
   pub spelled : text ≡ journal_line order ++ behind
-
--- The output of a script under an order of its entries.
-abbrev pub IsOutput : List ℕ → List ℕ → List ℕ → Type 0
-IsOutput bytes order text = (run : Run) × IsRun bytes order run × IsRunText order run text

@@ -98,10 +98,6 @@ LinesRun over order stage log number (reading ∷ readings) run =
 abbrev pub ScriptRun : Script → List ℕ → Run → Type 0
 ScriptRun script order run = LinesRun script.over order begun [] 1 script.readings run
 
--- The run of the bytes of a script under an order.
-abbrev pub IsRun : List ℕ → List ℕ → Run → Type 0
-IsRun bytes order run = (script : Script) × IsScript bytes script × ScriptRun script order run
-
 -- ---- allowed orders
 
 -- So many workers may take the entries of the run of a script in this order: each entry's line stands in it once, and nothing else;

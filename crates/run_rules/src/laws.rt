@@ -1,10 +1,11 @@
 //! Laws of the definitions, as contracts of functions without a body.
 
-ghost use Rattle.run_rules.specs.Laws.{OneReading, OneScript, EachInputIsAScript, OneRun, OneOutput, EachScriptHasARun, RisingIsAllowed, OrdersAgree, WhatIsShownWasAccepted, FewAsksReuseNothing};
+ghost use Rattle.run_rules.specs.Laws.{OneReading, OneScript, EachInputIsAScript, OneRun, OneOutput, JournalLineShowsOrder, EachScriptHasARun, RisingIsAllowed, OrdersAgree, WhatIsShownWasAccepted, FewAsksReuseNothing};
 ghost use Rattle.run_rules.specs.SentTexts.{SentMessageIsTaken};
 ghost use Rattle.run_rules.specs.Histories.Confirmed.{BringsTwice, Confirms};
 ghost use Rattle.run_rules.specs.Histories.Heads.{HeadAlone, HeadCutOff, LimitBehindHead, OtherLetter};
 ghost use Rattle.run_rules.specs.Histories.Written.{ConfirmedIsWritten};
+ghost use Rattle.run_rules.specs.Histories.Lines.{BadLinesAreWritten, HappeningsTell, LogonsAreWritten, PlacesAreCounted, RefusedTextsAreWritten, RowsAreWritten};
 ghost use Rattle.run_rules.specs.Histories.BadLines.{NoLogon, NoSuchNumber, NothingToCancel, OtherRole, StillWaiting, UnlistedAddress};
 ghost use Rattle.run_rules.specs.Histories.Bursts.{OrderDecides};
 ghost use Rattle.run_rules.specs.Histories.Reuse.{OldDownlink, OldUplink, OtherRow};
@@ -28,6 +29,11 @@ pub fn a_script_has_one_run()
     ensures output { OneOutput }
 {}
 
+/// The journal line of an output shows its order: of the numbers that lines of a script may have, no two lists have one journal line.
+pub fn a_journal_line_shows_its_order()
+    ensures { JournalLineShowsOrder }
+{}
+
 /// Each script has a run under each order: every payload that stands in the journal is read, so there are downlinks to bring, and every
 /// downlink says something to its centre.
 pub fn a_script_has_a_run_under_each_order()
@@ -41,7 +47,8 @@ pub fn a_rising_order_is_allowed()
 {}
 
 /// With at most five ground addresses it doesn't matter in which allowed order the entries are taken, by how many workers: what happens
-/// is the same, and each link has the same downlinks and the same logon state as in the order of the lines.
+/// is the same, each link has the same downlinks and the same logon state as in the order of the lines, and so the output is the same but
+/// for its journal line.
 pub fn orders_agree()
     ensures { OrdersAgree }
 {}
@@ -79,6 +86,17 @@ pub fn worked_bad_lines()
     ensures nothing_to_cancel { NothingToCancel }
 {}
 
+/// Single lines of an output, one of each form, come out as they are written, places in texts are where the parts of a text begin, and
+/// single happenings tell what they should.
+pub fn worked_lines()
+    ensures logons { LogonsAreWritten }
+    ensures refused { RefusedTextsAreWritten }
+    ensures rows { RowsAreWritten }
+    ensures bad { BadLinesAreWritten }
+    ensures places { PlacesAreCounted }
+    ensures tell { HappeningsTell }
+{}
+
 /// A worked burst: six ground addresses ask in one burst, and which of them isn't heard is decided by the order in which their texts are
 /// taken; both orders are allowed.
 pub fn worked_burst()
@@ -94,7 +112,7 @@ pub fn worked_early_reuse()
     ensures other_row { OtherRow }
 {}
 
-/// What a centre shows confirmed, in full or in part, at the end of a script was accepted by its aircraft with those parameters, unless
+/// What a centre shows confirmed, in full or in part, at the end of a run, however it ends, was accepted by its aircraft with those parameters, unless
 /// the centre reused a number too early. It holds for every number of workers and every order that they may take the entries in, and it
 /// says nothing of what is in force by then.
 pub fn what_is_shown_was_accepted()

@@ -7,7 +7,7 @@
 //! journal, so only there the order is seen. The crate has no code but the types that the definitions speak of. Scripts, orders and
 //! outputs are this project's profile.
 //!
-//! Below stand the definitions of script lines, texts, the aircraft and the centre; above stands `adsc_run`, whose contracts cite
+//! Below stand the definitions of script lines, texts, the aircraft and the centre; above stand `adsc_run`, `generated_scripts` and the bench, whose contracts cite
 //! these. Begin with `specs/Happenings.antt` (what happens), `specs/Lines.antt` and `specs/Texts.antt` (what a line does),
 //! `specs/Runs.antt` (the run) and `specs/Orders.antt` (allowed orders); then `specs/Output.antt`, `specs/Claims.antt` (confirmed,
 //! accepted, reused too early) and `src/laws.rt`.
@@ -20,10 +20,10 @@ mod refused;
 
 pub use end::End;
 pub use laws::{
-    a_line_has_one_reading, a_rising_order_is_allowed, a_script_has_a_run_under_each_order,
-    a_script_has_one_run, a_sent_message_is_taken, each_input_is_a_script, few_asks_reuse_nothing,
-    orders_agree, what_is_shown_was_accepted, worked_bad_lines, worked_burst, worked_early_reuse,
-    worked_heads, worked_scripts,
+    a_journal_line_shows_its_order, a_line_has_one_reading, a_rising_order_is_allowed,
+    a_script_has_a_run_under_each_order, a_script_has_one_run, a_sent_message_is_taken,
+    each_input_is_a_script, few_asks_reuse_nothing, orders_agree, what_is_shown_was_accepted,
+    worked_bad_lines, worked_burst, worked_early_reuse, worked_heads, worked_lines, worked_scripts,
 };
 pub use reading::Reading;
 pub use refused::{RefusedLine, RefusedWhy};

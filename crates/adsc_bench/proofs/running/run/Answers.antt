@@ -10,4 +10,4 @@ returns-in-Ok-write_outcome g c =
 pub returns : goal.returns
 returns g c =
     let (text, written, writes) = c.in-Err.ensures in
-    runs_write_fault c.what_is_shown_was_accepted.ensures _ _ _ _ c.in-Ok.outcome text c.in-Ok.ensures.run written writes.cause.failed writes.front
+    runs_write_fault c.what_is_shown_was_accepted.ensures _ _ _ _ c.in-Ok.outcome text c.in-Ok.ensures.run written writes.cause.failed (c.in-Ok.ensures.kept (λ e. cc)) writes.front

@@ -1,7 +1,7 @@
 use Rattle.std.proofs.Common.{◌≡◌, ◌+◌, [], ◌∷◌, length, slice_get, Some, ap, sym, ◌∙◌, subst}
 use Rattle.std.proofs.lemmas.List.{length-append}
 use Rattle.adsc_run.specs.Stations.{StationStands}
-use Rattle.adsc_run.proofs.CourseLaws.{pushed_each}
+use Rattle.adsc_run.proofs.EachItem.{pushed_each}
 use Rattle.adsc_run.proofs.course.stations_of.Goals as goal
 
 pub loop-link-preserved : goal.loop-link-preserved

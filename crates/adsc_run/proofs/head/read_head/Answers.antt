@@ -1,6 +1,6 @@
-use Rattle.std.proofs.Common.{◌≡◌, Err, rules, subst, ℕ, List, Option}
-use Rattle.run_rules.specs.Stages.{begun, flying}
-use Rattle.adsc_run.specs.UnderWay.{IsInStage, StopsInHead}
+use Rattle.std.proofs.Common.{◌≡◌, Err, rules, subst}
+use Rattle.run_rules.specs.Stages.{flying}
+use Rattle.adsc_run.specs.UnderWay.{IsInStage}
 use Rattle.adsc_run.proofs.HeadLaws.{setting_of_three}
 use Rattle.adsc_run.proofs.head.read_head.Goals as goal
 

@@ -1,6 +1,4 @@
-use Rattle.std.proofs.Common.{◌∙◌, ap}
-use Rattle.std.proofs.lemmas.Result.{IfOk-weaker}
-use Rattle.adsc_run.specs.declared.feed.Next.TheVariants as next
+use Rattle.std.proofs.Common.{◌∙◌}
 use Rattle.adsc_run.proofs.HeadLaws.{too_soon}
 use Rattle.adsc_run.proofs.head.said_in.Goals as goal
 

@@ -1,10 +1,9 @@
-use Rattle.std.proofs.Common.{true, false, ◌<◌, length, refl, sym, subst, arith}
+use Rattle.std.proofs.Common.{true, sym, subst}
 use Rattle.std.proofs.lemmas.Result.{IfOk-weaker}
-use Rattle.run_rules.specs.Happenings.{history, sent_messages}
-use Rattle.run_rules.specs.Lines.{ask_step, bring_step, cancel_step}
-use Rattle.run_rules.specs.Stages.{receives}
+use Rattle.run_rules.specs.Happenings.{sent_messages}
+use Rattle.run_rules.specs.Lines.{bring_step}
 use Rattle.adsc_run.specs.Courses.{Did}
-use Rattle.adsc_run.proofs.StepLaws.{asked_did, cancelled_did, ended_here}
+use Rattle.adsc_run.proofs.StepLaws.{ended_here}
 use Rattle.adsc_run.proofs.course.Course.bring.Goals as goal
 
 pub returns-in-Ok : goal.returns-in-Ok

@@ -1,4 +1,4 @@
-use Rattle.std.proofs.Common.{◌≡◌, rules, refl, sym, ap, ◌∙◌, subst, set, ◌<◌, length}
+use Rattle.std.proofs.Common.{rules, ap, ◌∙◌, set, ◌<◌, length}
 use Rattle.std.proofs.lemmas.Option.{get_or_from_slice_get}
 use Rattle.adsc_run.specs.declared.course.Course.{Course}
 use Rattle.adsc_run.specs.declared.station.Role.TheVariants.{Centre}
@@ -16,6 +16,7 @@ returns-in-Ok c log stood unused =
     (λ joined. message_brought c.args.self.now c.join.new.self log c.args.link c.args.line c.args.place kept.0 _ there.0 stood there.1 unused
     (c.entry_of.ensures.entry kept.0.carried kept.2) kept.1 (c.entry_of.ensures.taken c.args.self.now.craft.setting c.requires.link)
     (ap (λ (v : Course). v.craft) c.join.ensures.same) (ap (λ (v : Course). v.refused) c.join.ensures.same)
+    (ap (λ (v : Course). v.downlink_ends.items) c.join.ensures.same)
     (ap (λ (v : Course). v.stations.items) c.join.ensures.same ∙ c.give_role.ensures there.0
     ∙ ap (λ (s : Station). set c.args.self.now.stations.items c.args.link (record s { role = Centre })) (get_or_from_slice_get c.args.self.now.stations.items c.args.link there.0 there.0 there.1))
     joined)

@@ -1,4 +1,4 @@
-use Rattle.std.proofs.Common.{ap, sym, subst, ◌+◌, ◌≡◌, arith, ℕ}
+use Rattle.std.proofs.Common.{sym, subst, ◌+◌, ◌≡◌, arith}
 use Rattle.adsc_run.specs.Outcomes.{AreRowsOf, centre_links}
 use Rattle.adsc_run.specs.Stations.{StationStands}
 use Rattle.adsc_run.proofs.RowsLaws.{rows_are}

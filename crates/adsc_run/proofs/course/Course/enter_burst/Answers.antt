@@ -16,5 +16,6 @@ returns-then-is_empty g c =
       setting = refl;
       stations = refl;
       refused = refl;
+      ends = refl;
       none = none;
     }

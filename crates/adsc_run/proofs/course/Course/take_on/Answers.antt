@@ -1,4 +1,4 @@
-use Rattle.std.proofs.Common.{◌≡◌, rules, refl, sym, ap, ◌∙◌, subst, set, ◌<◌, length, true, false}
+use Rattle.std.proofs.Common.{◌≡◌, rules, ap, ◌∙◌, set, ◌<◌, length}
 use Rattle.std.proofs.lemmas.Option.{get_or_from_slice_get}
 use Rattle.adsc_run.specs.Stations.{is_centre_role}
 use Rattle.adsc_run.specs.declared.course.Course.{Course}
@@ -25,6 +25,7 @@ returns c log stood =
     (λ joined. text_taken c.args.self.now c.join.new.self log c.args.link c.args.line c.args.entry there.0 stood there.1
     (ap is_centre_role (role_there c.args.self.now.stations.items c.args.link there.0 c.role_at.result there.1 (c.role_at.ensures there.0)) ∙ not_centre c.role_at.result differs)
     c.requires.text c.requires.taken (ap (λ (v : Course). v.craft) c.join.ensures.same) (ap (λ (v : Course). v.refused) c.join.ensures.same)
+    (ap (λ (v : Course). v.downlink_ends.items) c.join.ensures.same)
     (ap (λ (v : Course). v.stations.items) c.join.ensures.same ∙ c.give_role.ensures there.0
     ∙ ap (λ (s : Station). set c.args.self.now.stations.items c.args.link (record s { role = Raw })) (get_or_from_slice_get c.args.self.now.stations.items c.args.link there.0 there.0 there.1))
     joined)

@@ -8,10 +8,10 @@ returns-in_default c log stood = rw (c.in_default.ensures.place) (c.refuse.ensur
 
 pub returns-then-eq : goal.returns-then-eq
 returns-then-eq c log stood =
-    let same : same_text c.args.uplink.registration c.args.self.now.craft.setting.registration ≡ true = text_is c.args.uplink.registration c.args.self.now.craft.setting.registration (search rules) in
+    let same : same_text c.args.uplink.now.registration c.args.self.now.craft.setting.registration ≡ true = text_is c.args.uplink.now.registration c.args.self.now.craft.setting.registration (search rules) in
     rw (c.in-Some.ensures.place, same) (c.take_payload.ensures log stood)
 
 pub returns : goal.returns
 returns c log stood =
-    let other : same_text c.args.uplink.registration c.args.self.now.craft.setting.registration ≡ false = text_is_other c.args.uplink.registration c.args.self.now.craft.setting.registration (search rules) in
+    let other : same_text c.args.uplink.now.registration c.args.self.now.craft.setting.registration ≡ false = text_is_other c.args.uplink.now.registration c.args.self.now.craft.setting.registration (search rules) in
     rw (c.in-Some.ensures.place, other) (c.refuse-2.ensures log stood)

@@ -1,14 +1,13 @@
-use Rattle.std.proofs.Common.{rules, refl, [], ◌∷◌, ◌++◌, ◌≡◌, false, IsTrue, Some, Err, Ok, ap, ◌∙◌, sym, subst}
+use Rattle.std.proofs.Common.{rules, refl, [], ◌∷◌, ◌++◌, ◌≡◌, false, IsTrue, Some, ap, ◌∙◌, sym, subst}
 use Rattle.centre_core.specs.Events.{Asks}
 use Rattle.centre_core.specs.View.{CentreView, KeepsNames}
 use Rattle.adsc_run.specs.declared.carried.SentText.TheVariants.{Message}
-use Rattle.centre_core.specs.Histories.{StandsFor, next_number_at, row_for, table_at, was_contacted}
+use Rattle.centre_core.specs.Histories.{StandsFor, row_for, was_contacted}
 use Rattle.centre_core.specs.Tables.{number_pending}
 use Rattle.centre_core.specs.declared.refusal.AskRefused.TheVariants.{NotLoggedOn, Waiting}
 use Rattle.run_rules.specs.Happenings.{history}
-use Rattle.run_rules.specs.Lines.{asking_step}
 use Rattle.net_script.specs.declared.refusal.Code.TheVariants as code
-use Rattle.adsc_run.specs.Stations.{StationDid, ends_bad}
+use Rattle.adsc_run.specs.Stations.{ends_bad}
 use Rattle.adsc_run.proofs.StationLaws.{asked_off, asked_waiting, err_is, if_ok_none, ok_is_not, station_asked, station_same}
 use Rattle.adsc_run.proofs.station.Station.ask.Goals as goal
 

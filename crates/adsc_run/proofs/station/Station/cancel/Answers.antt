@@ -1,4 +1,4 @@
-use Rattle.std.proofs.Common.{refl, ◌∷◌, sym, subst, ap, ◌∙◌}
+use Rattle.std.proofs.Common.{refl, ◌∷◌, sym, subst, ◌∙◌}
 use Rattle.centre_core.specs.Events.{CancelsAll}
 use Rattle.centre_core.specs.Histories.{StandsFor}
 use Rattle.centre_core.specs.View.{CentreView, KeepsNames}

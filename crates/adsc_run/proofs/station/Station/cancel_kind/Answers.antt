@@ -1,4 +1,4 @@
-use Rattle.std.proofs.Common.{rules, refl, ◌∷◌, Some, sym, subst}
+use Rattle.std.proofs.Common.{rules, refl, ◌∷◌, sym, subst}
 use Rattle.centre_core.specs.Events.{Cancels}
 use Rattle.centre_core.specs.Histories.{StandsFor}
 use Rattle.centre_core.specs.View.{CentreView, KeepsNames}

@@ -1,4 +1,4 @@
-use Rattle.std.proofs.Common.{◌∙◌, sym, subst}
+use Rattle.std.proofs.Common.{sym, subst}
 use Rattle.centre_core.specs.Heard.{with_heard}
 use Rattle.centre_core.specs.Histories.{StandsFor}
 use Rattle.centre_core.specs.View.{CentreView, KeepsNames}

@@ -1,0 +1,20 @@
+use Rattle.run_rules.proofs.WorkedLines.{bad_lines_are_written, happenings_tell, logons_are_written, places_are_counted, refused_texts_are_written, rows_are_written}
+use Rattle.run_rules.proofs.laws.worked_lines.Goals as goal
+
+pub returns-clause-logons : goal.returns-clause-logons
+returns-clause-logons c = logons_are_written
+
+pub returns-clause-refused : goal.returns-clause-refused
+returns-clause-refused c = refused_texts_are_written
+
+pub returns-clause-rows : goal.returns-clause-rows
+returns-clause-rows c = rows_are_written
+
+pub returns-clause-bad : goal.returns-clause-bad
+returns-clause-bad c = bad_lines_are_written
+
+pub returns-clause-places : goal.returns-clause-places
+returns-clause-places c = places_are_counted
+
+pub returns-clause-tell : goal.returns-clause-tell
+returns-clause-tell c = happenings_tell
