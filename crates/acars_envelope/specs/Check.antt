@@ -1,6 +1,6 @@
 -- The check code: a cyclic redundancy check of 16 bits with the generator x^16 + x^12 + x^5 + 1, by
--- division of polynomials whose coefficients are added modulo 2 (the generator is that of the CRC-16
--- which ARINC 622 uses; start and complement are this project's profile).
+-- division of polynomials whose coefficients are added modulo 2. All of it, generator, start, order of
+-- bits and complement, is this project's profile.
 -- A polynomial is the list of its coefficients, the highest power first.
 use Rattle.std.specs.Prelude.{◌≡◌, ℕ, zero, suc, Bool, true, false, not, List, [], ◌∷◌, ◌++◌, length, drop, map, replicate}
 use Rattle.bit_terms.specs.Bits.{unsigned_bits}

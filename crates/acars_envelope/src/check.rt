@@ -12,8 +12,8 @@ pub(crate) const START: u16 = 0xffff;
 
 /// The check code of octets: a cyclic redundancy check of 16 bits with the generator
 /// x^16 + x^12 + x^5 + 1, its register all ones at first, each octet's most significant bit first,
-/// nothing reflected, the end value complemented (this project's profile of the check that ARINC 622
-/// puts behind a text). The code of no octets is 0000, and that of the text `123456789` is D64E.
+/// nothing reflected, the end value complemented (this project's profile, no statement about the check
+/// of a real data link). The code of no octets is 0000, and that of the text `123456789` is D64E.
 pub fn check_code(bytes: &[u8]) -> u16
     ensures { result ≡ check_of bytes.now }
 {

@@ -36,8 +36,8 @@ pub(crate) fn append_code<const N: usize>(text: &mut ArrayVec<u8, N>, code: u16)
 }
 
 /// Writes octets as hexadecimal digits with capital letters, two an octet, over a slice of twice their
-/// number. These are the digits of an envelope's payload and check (ARINC 622), and wherever this
-/// project's profile writes hexadecimal.
+/// number. These are the digits of an envelope's payload and check, and wherever this project's
+/// profile writes hexadecimal.
 pub fn write_digits(octets: &[u8], digits: &mut [u8])
     requires { length digits.old ≡ 2 * length octets.now }
     ensures written { digits.new ≡ encode_upper octets.now }

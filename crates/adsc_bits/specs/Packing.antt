@@ -1,4 +1,4 @@
--- The octets that bits spell (RTCA DO-258A / EUROCAE ED-100A: the most significant bit of each octet first).
+-- The octets that bits spell (this project's profile: the most significant bit of each octet first).
 use Rattle.std.specs.Prelude.{ℕ, Bool, List, [], ◌∷◌}
 use Rattle.bit_terms.specs.Octets.{number_spelled}
 

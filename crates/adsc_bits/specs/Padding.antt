@@ -1,4 +1,4 @@
--- How many zeros fill an octet (RTCA DO-258A / EUROCAE ED-100A: a message is whole octets).
+-- How many zeros fill an octet (this project's profile: a message is whole octets).
 use Rattle.std.specs.Prelude.{ℕ, ◌-◌, ◌%◌}
 
 -- How many bits are missing after `count` bits to the end of the octet: none where the octet is whole.

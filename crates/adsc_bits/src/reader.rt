@@ -17,7 +17,7 @@ pub struct Short {
 /// What is left to read of some octets. Contracts see the bits that are left, and the place of the
 /// first of them.
 ///
-/// Source: the bit order of RTCA DO-258A / EUROCAE ED-100A.
+/// Source: this project's profile of the order of bits.
 #[derive(Drop)]
 pub struct BitReader<'a> {
     // The octets of which no bit was taken yet.

@@ -14,7 +14,7 @@ use std::marker::Model;
 /// The bits written so far, at most 2,040: the 255 octets of the longest payload. Contracts see the
 /// list of the bits.
 ///
-/// Source: the bit order of RTCA DO-258A / EUROCAE ED-100A; the limit is this project's profile.
+/// Source: this project's profile of the order of bits and of the limit.
 #[derive(Drop)]
 pub struct BitWriter {
     octets: ArrayVec<u8, 255>,

@@ -1,6 +1,6 @@
 -- A table of fields, and what it says of bits: which bits encode which values, which encoding is the canonical one, and where a message is cut
--- short. The kinds of fields are those of RTCA DO-258A / EUROCAE ED-100A; tables but for the basic data, and the canonical encoding, are this
--- project's profile.
+-- short. The order of the basic data's fields is that of RTCA DO-258A / EUROCAE ED-100A and ARINC 745; all else of fields, and the canonical
+-- encoding, is this project's profile.
 use Rattle.std.specs.Prelude.{◌≡◌, ℕ, ◌+◌, ◌^◌, ◌<◌, ◌≤◌, ℤ, pos, unsigned_abs, Bool, List, [], ◌∷◌, ◌++◌, length, Result, Ok}
 use Rattle.bit_terms.specs.Bits.{unsigned_bits}
 use Rattle.bit_terms.specs.Signed.{signed_bits, FitsSigned}

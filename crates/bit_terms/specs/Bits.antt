@@ -1,4 +1,4 @@
--- The bits of a field that holds a number from 0 up. The order of the bits is that of RTCA DO-258A / EUROCAE ED-100A: the most significant first.
+-- The bits of a field that holds a number from 0 up. The most significant bit stands first (this project's profile).
 use Rattle.std.specs.Prelude.{ℕ, zero, suc, Bool, List, [], ◌∷◌, ◌==◌}
 use Rattle.std.specs.Int.{bit_at}
 

@@ -1,4 +1,4 @@
--- The bits of octets, and the number that bits spell. Bits go most significant first, octets in the order in which they are sent (RTCA DO-258A / EUROCAE ED-100A).
+-- The bits of octets, and the number that bits spell. Bits go most significant first, octets in the order in which they are sent (this project's profile).
 use Rattle.std.specs.Prelude.{ℕ, ◌+◌, ◌^◌, Bool, true, false, List, [], ◌∷◌, length, flat_map}
 use Rattle.bit_terms.specs.Bits.{unsigned_bits}
 

@@ -1,4 +1,4 @@
--- Signed fields, in two's complement (RTCA DO-258A / EUROCAE ED-100A).
+-- Signed fields, in two's complement (this project's profile).
 use Rattle.std.specs.Prelude.{ℕ, ◌+◌, ◌-◌, ◌^◌, Bool, List, ℤ, pos, negsuc, neg_ℤ, ◌-ℤ◌, ◌≤ℤ◌, ◌<ℤ◌, nat_lt, if◌then◌else◌}
 use Rattle.bit_terms.specs.Bits.{unsigned_bits}
 

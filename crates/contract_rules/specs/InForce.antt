@@ -1,5 +1,5 @@
 -- The contracts in force on a link. At most one periodic, one event and one emergency contract is in force on a link;
--- a demand never is. Requests that replace and cancels that end a contract follow RTCA DO-258A / EUROCAE ED-100A.
+-- a demand never is. The kinds of contracts are those of ICAO Doc 10037; what replaces and what ends one is this project's profile.
 use Rattle.std.specs.Prelude.{ℕ, Bool, false, cond, ◌==◌, ◌||◌, List, Option, Some, None, is_some, option_map}
 use Rattle.contract_rules.specs.Messages.{Message, Cancel, Kind, Periodic, Event, Emergency, number_of, is_request_of, same_message}
 use Rattle.contract_rules.specs.Acts.{Act, Said}

@@ -1,5 +1,5 @@
 -- Which links are live, who is admitted, what a link heard, and its session.
--- Admission of at most five links is this project's profile; connections and their end follow ICAO Doc 10037.
+-- Admission of at most five links, the kept connection, and which links are answered are this project's profile.
 use Rattle.std.specs.Prelude.{ℕ, ◌-◌, Bool, false, cond, not, ◌&&◌, ◌||◌, ◌==◌, nat_eq, nat_lt, List, [], ◌∷◌, length, filter, Option, Some, None, unwrap_or}
 use Rattle.std.specs.List.{list_any}
 use Rattle.contract_rules.specs.Configuration.{Configuration, max_live_links}

@@ -1,5 +1,5 @@
 -- Periodic reports: when a basic report falls due, and its number in its series.
--- Reports at fixed intervals from acceptance follow ICAO Doc 10037; the grid is this project's profile.
+-- That such contracts exist follows ICAO Doc 10037; the moments of reports are this project's profile.
 use Rattle.std.specs.Prelude.{ℕ, max, Bool, true, false, not, ◌&&◌, List, Option, Some, None}
 use Rattle.contract_rules.specs.Messages.{Message, PeriodicRequest, Demand, Periodic, interval_of}
 use Rattle.contract_rules.specs.Acts.{Said, Ticked}

@@ -1,5 +1,5 @@
 -- Reports in a series: the grid of their moments, and the groups of each by its number.
--- That a group may be asked for with a modulus follows RTCA DO-258A / EUROCAE ED-100A; grids, numbers and the rule are this project's profile.
+-- Grids, numbers and the rule of moduli are this project's profile.
 use Rattle.std.specs.Prelude.{ℕ, ◌-◌, ◌/◌, ◌%◌, Bool, false, ◌&&◌, ◌==◌, nat_lt, nat_le, List, [], ◌∷◌, map, Option, Some, None}
 use Rattle.contract_rules.specs.Messages.{Message, PeriodicRequest, EmergencyRequest}
 

@@ -1,5 +1,5 @@
 -- The verdict on a message or a malformed payload, and the past as a list of noted acts.
--- The reasons are those of RTCA DO-258A / EUROCAE ED-100A as this project's profile numbers them.
+-- The reasons, their numbers and repeats are this project's profile.
 use Rattle.std.specs.Prelude.{Bool, cond, ◌&&◌, ◌==◌, List, [], ◌∷◌, Option, Some, None}
 use Rattle.contract_rules.specs.Configuration.{Configuration}
 use Rattle.contract_rules.specs.Messages.{Message, CancelAll, Cancel, CancelEmergency, number_of}

@@ -2,9 +2,9 @@
 //!
 //! For every history of acts (messages and malformed payloads of ground links, samples, ticks and the crew's emergency
 //! switch) the definitions of `specs/` say which links are live, which contract is in force, what the verdict on a
-//! message is, and which items are due on each link. They follow RTCA DO-258A / EUROCAE ED-100A and ICAO Doc 10037; the
-//! moments of reports, admission, emergency mode and repeats are this project's profile. The crates of due rules, of the
-//! table of contracts, of the aircraft and of the runs stand above: their contracts are to cite these definitions.
+//! message is, and which items are due on each link. The messages are those of RTCA DO-258A / EUROCAE ED-100A, the
+//! kinds of contracts and reports those of ICAO Doc 10037; all rules are this project's profile. The crates of due rules, of the
+//! table of contracts, of the aircraft and of the runs stand above: their contracts cite these definitions.
 //!
 //! Begin with `specs/Messages.antt` and `specs/Acts.antt`, the data; then `specs/LookingBack.antt`, the words; then
 //! live links, contracts in force, reports in a series, emergency mode, verdicts, periodic reports, events, and what is

@@ -37,7 +37,7 @@ pub struct Table {
     connections: Connections,
 }
 
-/// A table takes at most 2 kB (664 bytes as it is laid out today).
+/// A table takes at most 2 kB (it is laid out in 664).
 const _: () = prove!(size_of::<Table>() <= 2048);
 
 impl Model for Table {

@@ -9,8 +9,8 @@ use std::marker::Model;
 /// The moments at which reports of a series are due: every `interval` seconds from the anchor on, the anchor itself not
 /// among them. Contracts see its anchor, its interval and the last moment that it was given.
 ///
-/// Reports at fixed intervals from acceptance follow ICAO Doc 10037; that missed moments are not made up is this
-/// project's profile.
+/// That contracts with an interval exist follows ICAO Doc 10037; the grid, and that missed moments are not made up, are
+/// this project's profile.
 #[derive(Clone, Copy, Debug, PartialEq, Eq)]
 pub struct Grid {
     anchor: u32,

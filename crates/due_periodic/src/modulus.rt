@@ -4,8 +4,7 @@ ghost use Rattle.std.specs.Prelude.{◌≡◌};
 ghost use Rattle.contract_rules.specs.Reports.{is_modulus_due};
 
 /// Whether a group of this modulus stands in report number `r` of its series, counted from 0: where the modulus is at
-/// least 1 and divides `r`. Moduli follow RTCA DO-258A / EUROCAE ED-100A; that modulus 0 means never is this project's
-/// profile.
+/// least 1 and divides `r`. This project's profile.
 pub fn modulus_due(r: u64, modulus: u8) -> bool
     ensures { result ≡ is_modulus_due r (Some modulus) }
 {

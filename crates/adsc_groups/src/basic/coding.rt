@@ -13,7 +13,8 @@ use adsc_bits::{BitReader, BitWriter, Short};
 
 /// Writes the basic data, ten octets with the padding zero. There is room for them.
 ///
-/// Source: RTCA DO-258A / EUROCAE ED-100A; zeros as padding are this project's profile.
+/// Source: RTCA DO-258A / EUROCAE ED-100A, ARINC 745 for the order; zeros as padding are this project's
+/// profile.
 #[tactic(auto, unfolding(crate::specs::Basic::basic_bits))]
 pub fn encode_basic(basic: &Basic, out: &mut BitWriter)
     requires { length out.old + 80 ≤ 2040 }
@@ -35,7 +36,7 @@ pub fn encode_basic(basic: &Basic, out: &mut BitWriter)
 
 /// The basic data that stands next, whatever its padding. The reader then stands just past it.
 ///
-/// Source: RTCA DO-258A / EUROCAE ED-100A.
+/// Source: RTCA DO-258A / EUROCAE ED-100A, ARINC 745 for the order.
 ///
 /// # Errors
 ///
