@@ -2,7 +2,6 @@
 ghost use Rattle.std.specs.Prelude.{◌≡◌, ◌<◌, [], ◌∷◌, length};
 ghost use Rattle.aircraft_core.specs.Entries.{IsTakenBy};
 ghost use Rattle.aircraft_core.specs.Setting.{Setting};
-ghost use Rattle.centre_core.specs.Tables.{with_number as numbered};
 ghost use Rattle.run_rules.specs.Happenings.{Carried};
 ghost use Rattle.run_rules.specs.Lines.{entry_with};
 ghost use Rattle.adsc_run.specs.Stations.{text_of};
@@ -46,38 +45,4 @@ fn only(message: Message) -> Uplink
     let mut messages = ArrayVec::new();
     messages.push(message);
     Uplink { messages }
-}
-
-/// The message with this number.
-pub(crate) fn with_number(n: u8, message: &Message) -> Message
-    ensures { result ≡ numbered n message.now }
-{
-    match *message {
-        Message::CancelAll => Message::CancelAll,
-        Message::Cancel { .. } => Message::Cancel { n },
-        Message::CancelEmergency { .. } => Message::CancelEmergency { n },
-        Message::Periodic {
-            interval,
-            groups,
-            intent,
-            ..
-        } => Message::Periodic {
-            n,
-            interval,
-            groups,
-            intent,
-        },
-        Message::Event { limits, .. } => Message::Event { n, limits },
-        Message::Emergency {
-            interval,
-            groups,
-            intent,
-            ..
-        } => Message::Emergency {
-            n,
-            interval,
-            groups,
-            intent,
-        },
-    }
 }

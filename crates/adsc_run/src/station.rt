@@ -11,12 +11,12 @@ ghost use Rattle.adsc_run.specs.Stations.{StationDid, StationStands, answers_to}
 ghost use Rattle.adsc_run.specs.declared.carried.SentText.TheVariants as texts;
 ghost use Rattle.adsc_run.specs.declared.station.Role.TheVariants as roles;
 
-use crate::carried::{SentText, with_number};
+use crate::carried::SentText;
 use crate::ending::bad_line;
 use acars_envelope::{Address, Registration};
 use adsc_io::NoMemory;
 use adsc_requests::{Kind, Message};
-use centre_core::{AskRefused, Centre, Heard, NothingShown};
+use centre_core::{AskRefused, Centre, Heard, NothingShown, with_number};
 use net_script::{Cancel, Code};
 use run_rules::End;
 use std::alloc::Global;

@@ -36,6 +36,7 @@ pub use laws::{
     a_text_says_one_thing, own_contact_is_heard, own_downlink_is_heard, rows_go_on,
     worked_histories,
 };
+pub use number::with_number;
 pub use refusal::{AskRefused, NothingShown};
 pub use sent::Sent;
 pub use shown::Shown;

@@ -21,8 +21,8 @@ pub(crate) fn number_of(message: &Message) -> u8
     }
 }
 
-/// The message with this number.
-pub(crate) fn with_number(n: u8, message: &Message) -> Message
+/// The message with this contract number, 0 to 255 (RTCA DO-258A / EUROCAE ED-100A); a cancel of all, which has none, is as it was.
+pub fn with_number(n: u8, message: &Message) -> Message
     ensures { result ≡ numbered n message.now }
 {
     match *message {

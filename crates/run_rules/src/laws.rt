@@ -5,7 +5,7 @@ ghost use Rattle.run_rules.specs.SentTexts.{SentMessageIsTaken};
 ghost use Rattle.run_rules.specs.Histories.Confirmed.{BringsTwice, Confirms};
 ghost use Rattle.run_rules.specs.Histories.Heads.{HeadAlone, HeadCutOff, LimitBehindHead, OtherLetter};
 ghost use Rattle.run_rules.specs.Histories.Written.{ConfirmedIsWritten};
-ghost use Rattle.run_rules.specs.Histories.Lines.{BadLinesAreWritten, HappeningsTell, LogonsAreWritten, PlacesAreCounted, RefusedTextsAreWritten, RowsAreWritten};
+ghost use Rattle.run_rules.specs.Histories.Lines.{AnswersAreRefused, BadLinesAreWritten, HappeningsTell, HeadLettersAreDue, HeadLinesStop, LogonsAreWritten, PlacesAreCounted, RefusedTextsAreWritten, RowsAreWritten};
 ghost use Rattle.run_rules.specs.Histories.BadLines.{NoLogon, NoSuchNumber, NothingToCancel, OtherRole, StillWaiting, UnlistedAddress};
 ghost use Rattle.run_rules.specs.Histories.Bursts.{OrderDecides};
 ghost use Rattle.run_rules.specs.Histories.Reuse.{OldDownlink, OldUplink, OtherRow};
@@ -86,14 +86,17 @@ pub fn worked_bad_lines()
     ensures nothing_to_cancel { NothingToCancel }
 {}
 
-/// Single lines of an output, one of each form, come out as they are written, places in texts are where the parts of a text begin, and
-/// single happenings tell what they should.
+/// Single lines of an output, one of each form, come out as they are written, places in texts are where the parts of a text begin, the
+/// head has its letters and they stop a run behind it, and single happenings tell what they should.
 pub fn worked_lines()
     ensures logons { LogonsAreWritten }
     ensures refused { RefusedTextsAreWritten }
     ensures rows { RowsAreWritten }
     ensures bad { BadLinesAreWritten }
     ensures places { PlacesAreCounted }
+    ensures letters { HeadLettersAreDue }
+    ensures head { HeadLinesStop }
+    ensures answers { AnswersAreRefused }
     ensures tell { HappeningsTell }
 {}
 

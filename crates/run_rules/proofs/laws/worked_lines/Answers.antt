@@ -1,4 +1,4 @@
-use Rattle.run_rules.proofs.WorkedLines.{bad_lines_are_written, happenings_tell, logons_are_written, places_are_counted, refused_texts_are_written, rows_are_written}
+use Rattle.run_rules.proofs.WorkedLines.{answers_are_refused, bad_lines_are_written, happenings_tell, head_letters_are_due, head_lines_stop, logons_are_written, places_are_counted, refused_texts_are_written, rows_are_written}
 use Rattle.run_rules.proofs.laws.worked_lines.Goals as goal
 
 pub returns-clause-logons : goal.returns-clause-logons
@@ -18,3 +18,12 @@ returns-clause-places c = places_are_counted
 
 pub returns-clause-tell : goal.returns-clause-tell
 returns-clause-tell c = happenings_tell
+
+pub returns-clause-letters : goal.returns-clause-letters
+returns-clause-letters c = head_letters_are_due
+
+pub returns-clause-head : goal.returns-clause-head
+returns-clause-head c = head_lines_stop
+
+pub returns-clause-answers : goal.returns-clause-answers
+returns-clause-answers c = answers_are_refused
