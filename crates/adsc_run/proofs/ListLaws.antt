@@ -1,15 +1,54 @@
 -- What the workers take of a burst, and how it is woven into one list.
-use Rattle.std.proofs.Common.{◌≡◌, ◌≢◌, ◌⊎◌, ◌<◌, ◌≤◌, ◌%◌, ◌==◌, ℕ, zero, suc, inl, inr, Bool, true, false, cond, All, List, [], ◌∷◌, ◌++◌, filter, set, length, get_or, Some, slice_get, slice_set, refl, sym, ap, ◌∙◌, subst, arith, eq-eqb, ne_eqb, append-nil, length-set, get_or-set_same, get_or-set_other, mod-lt, eqb-true}
+use Rattle.std.proofs.Common.{◌≡◌, ◌≢◌, ◌⊎◌, ◌<◌, ◌≤◌, ◌%◌, ◌==◌, ℕ, zero, suc, inl, inr, Bool, true, false, IsTrue, cond, ◌&&◌, ◌↔◌, All, List, [], ◌∷◌, ◌++◌, filter, set, length, get_or, None, Some, slice_get, slice_set, refl, sym, ap, ◌∙◌, subst, arith, eq-eqb, ne_eqb, append-nil, length-set, get_or-set_same, get_or-set_other, mod-lt, eqb-true}
 use Rattle.std.specs.declared.vec.Vec.{Vec}
-use Rattle.std.proofs.lemmas.Bool.{eqb-false}
+use Rattle.std.proofs.lemmas.Bool.{and_parts, eqb-false}
 use Rattle.std.proofs.lemmas.List.{get_or-map, map-set}
-use Rattle.std.proofs.lemmas.List.Elements.{All-head, All-tail, filter-append}
+use Rattle.std.proofs.lemmas.List.Elements.{All-cons, All-head, All-nil, All-tail, filter-append}
+use Rattle.std.proofs.lemmas.List.Sums.{AllPass-from_list_all, list_all-from_AllPass}
+use Rattle.std.specs.List.{AllPass, list_all}
 use Rattle.std.proofs.lemmas.Option.{get_or_from_slice_get, slice_get-get_or, slice_get_within}
 use Rattle.aircraft_core.specs.declared.entry.Entry.{Entry}
 use Rattle.link_threads.specs.Interleavings.{Interleaves}
 use Rattle.run_rules.specs.EarlierLines.{AreTaken, AreWorkersLists, taken_by, text_link}
 use Rattle.run_rules.proofs.Weaving.{IsWoven, woven_is_taken}
-use Rattle.adsc_run.specs.Lists.{AreBusyLists, is_filled, lists_in}
+use Rattle.adsc_run.specs.Lists.{AreBusyLists, AreOfOneWorker, is_filled, lists_in}
+
+-- ---- one worker
+
+-- each entry is of this worker
+of_each : (workers worker : ℕ) (waiting : List Entry) → list_all (λ entry. text_link entry % workers == worker) waiting ≡ true
+    → All (λ entry. text_link entry % workers ≡ worker) waiting
+of_each workers worker [] all = All-nil (λ entry. text_link entry % workers ≡ worker)
+of_each workers worker (first ∷ rest) all =
+    let parts = and_parts _ _ all in
+    All-cons (λ entry. text_link entry % workers ≡ worker) first rest (eqb-true _ _ parts.0) (of_each workers worker rest parts.1)
+
+each_of : (workers worker : ℕ) (waiting : List Entry) → All (λ entry. text_link entry % workers ≡ worker) waiting
+    → list_all (λ entry. text_link entry % workers == worker) waiting ≡ true
+each_of workers worker [] all = refl
+each_of workers worker (first ∷ rest) all =
+    let own : text_link first % workers ≡ worker = All-head (λ entry. text_link entry % workers ≡ worker) first rest all in
+    ap (λ b. b && list_all (λ entry. text_link entry % workers == worker) rest) (eq-eqb (text_link first % workers) worker own)
+    ∙ each_of workers worker rest (All-tail (λ entry. text_link entry % workers ≡ worker) first rest all)
+
+-- the worker of the first entry takes them all exactly where one worker does
+pub one_worker : (workers worker : ℕ) (first : Entry) (waiting : List Entry) (takes : Bool) → slice_get waiting 0 ≡ Some first
+    → worker ≡ text_link first % workers → (IsTrue takes ↔ AllPass (λ entry. text_link entry % workers == worker) waiting)
+    → IsTrue takes ↔ AreOfOneWorker workers waiting
+one_worker workers worker first [] takes there own all = absurd (let both : None ≡ Some first = there in cc)
+one_worker workers worker first (head ∷ rest) takes there own all = (
+  λ yes. (
+    worker,
+    of_each workers worker (head ∷ rest)
+        (list_all-from_AllPass (λ entry. text_link entry % workers == worker) (head ∷ rest) (all.0 yes)),
+  ),
+  λ of_one.
+      let same : head ≡ first = let both : Some head ≡ Some first = there in cc in
+      let its : of_one.0 ≡ worker =
+      sym (All-head (λ entry. text_link entry % workers ≡ of_one.0) head rest of_one.1) ∙ ap (λ entry. text_link entry % workers) same ∙ sym own in
+      all.1 (AllPass-from_list_all (λ entry. text_link entry % workers == worker) (head ∷ rest) (each_of workers worker (head ∷ rest)
+      (subst (λ one. All (λ entry. text_link entry % workers ≡ one) (head ∷ rest)) its of_one.1))),
+)
 
 -- ---- dealt out
 

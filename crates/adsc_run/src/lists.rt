@@ -1,7 +1,8 @@
 //! What each worker takes of a burst.
-ghost use Rattle.std.specs.Prelude.{◌≡◌, ◌<◌, ◌≤◌, [], ◌∷◌, ◌++◌, filter, length, IfOk, OnOk, slice_index_or, slice_set};
+ghost use Rattle.std.specs.Prelude.{◌≡◌, ◌<◌, ◌≤◌, ◌↔◌, ◌%◌, ◌==◌, IsTrue, [], ◌∷◌, ◌++◌, filter, length, IfOk, OnOk, slice_index_or, slice_set};
+ghost use Rattle.std.specs.List.{AllPass};
 ghost use Rattle.run_rules.specs.EarlierLines.{AreWorkersLists, text_link as link_of_text};
-ghost use Rattle.adsc_run.specs.Lists.{AreBusyLists, is_filled, lists_in};
+ghost use Rattle.adsc_run.specs.Lists.{AreBusyLists, AreOfOneWorker, is_filled, lists_in};
 
 use adsc_io::NoMemory;
 use aircraft_core::Entry;
@@ -10,15 +11,22 @@ use std::alloc::Global;
 /// Whether one of so many workers takes all of these entries.
 pub(crate) fn are_of_one(workers: u8, burst: &[Entry]) -> bool
     requires { 1 ≤ workers }
+    ensures { IsTrue result ↔ AreOfOneWorker workers burst.now }
 {
-    match burst {
-        [] => true,
-        [first, rest @ ..] => {
-            let worker = text_link(first) % workers;
-            rest.iter()
-                .all(|entry| text_link(entry) % workers == worker)
-        }
+    match burst.first() {
+        None => true,
+        Some(first) => takes_all(workers, text_link(first) % workers, burst),
     }
+}
+
+/// Whether this one of so many workers takes all of these entries.
+fn takes_all(workers: u8, worker: u8, burst: &[Entry]) -> bool
+    requires { 1 ≤ workers }
+    ensures { IsTrue result ↔ AllPass (λ entry. link_of_text entry % workers == worker) burst.now }
+{
+    burst
+        .iter()
+        .all(|entry| text_link(entry) % workers == worker)
 }
 
 /// What each of so many workers takes of these entries, in order; there is no list of a worker that takes none.
