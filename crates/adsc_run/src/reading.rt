@@ -4,10 +4,12 @@ ghost use Rattle.std.specs.Prelude.{◌≡◌, ◌≢◌, ℕ, ◌≤◌, length
 ghost use Rattle.adsc_io.specs.Limits.{max_line_bytes};
 ghost use Rattle.adsc_io.specs.Lines.{IsUnbroken};
 ghost use Rattle.run_rules.specs.Places.{IsInPlace};
-ghost use Rattle.run_rules.specs.Readings.{ReadsLine};
+ghost use Rattle.adsc_run.specs.Feeds.{IsReadAs};
 
+use crate::fault::RunFault;
+use crate::feed::Next;
 use crate::placed::misplaced;
-use adsc_io::{MAX_LINE_BYTES, NoMemory};
+use adsc_io::MAX_LINE_BYTES;
 use flight_samples::SampleReader;
 use ground_texts::read_ground_text;
 use net_script::{Code, LineRefusal, ScriptLine, read_script_line};
@@ -35,33 +37,37 @@ pub(crate) fn read_line(
     alloc: Global,
     number: u32,
     line: &[u8],
-) -> Result<Reading, NoMemory>
+) -> Result<Next, RunFault>
     requires unbroken { IsUnbroken line.now }
-    ensures reads { IfOk result (ReadsLine number line.now) }
+    ensures reads { IfOk result (IsReadAs number line.now) }
+    ensures unread { result ≢ Err RunFault.Read }
 {
     if line.len() > MAX_LINE_BYTES {
-        return Ok(Reading::Bad {
+        return Ok(Next::Line(Reading::Bad {
             code: Code::Long,
             value: MAX_LINE_BYTES as u32,
-        });
+        }));
     }
     if let Some(code) = misplaced(number, line) {
-        return Ok(Reading::Bad { code, value: 0 });
+        return Ok(Next::Line(Reading::Bad { code, value: 0 }));
     }
     read_placed(samples, alloc, line)
 }
 
 /// What a line says that isn't too long and stands where it may, or the first fault of its form.
-fn read_placed(samples: &mut SampleReader, alloc: Global, line: &[u8]) -> Result<Reading, NoMemory>
+fn read_placed(samples: &mut SampleReader, alloc: Global, line: &[u8]) -> Result<Next, RunFault>
     requires size { length line.now ≤ max_line_bytes }
     requires unbroken { IsUnbroken line.now }
-    ensures reads { (number : ℕ) → IsInPlace number line.now → IfOk result (ReadsLine number line.now) }
+    ensures reads { (number : ℕ) → IsInPlace number line.now → IfOk result (IsReadAs number line.now) }
+    ensures unread { result ≢ Err RunFault.Read }
 {
     match read_script_line(samples, alloc, line) {
-        Ok(ScriptLine::U { from }) => Ok(Reading::Brings(read_ground_text(bytes_from(line, from)))),
-        Ok(value) => Ok(Reading::Says(value)),
-        Err(LineRefusal::Bad { code, value }) => Ok(Reading::Bad { code, value }),
-        Err(LineRefusal::NoMemory) => Err(NoMemory),
+        Ok(ScriptLine::U { from }) => Ok(Next::Line(Reading::Brings(read_ground_text(bytes_from(
+            line, from,
+        ))))),
+        Ok(value) => Ok(Next::Line(Reading::Says(value))),
+        Err(LineRefusal::Bad { code, value }) => Ok(Next::Line(Reading::Bad { code, value })),
+        Err(LineRefusal::NoMemory) => Err(RunFault::NoMemory),
     }
 }
 
