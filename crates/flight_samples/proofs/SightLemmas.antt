@@ -1,13 +1,14 @@
--- Lemmas on columns that are read while they are compared with their text.
-use Rattle.std.proofs.Common.{◌≡◌, ◌≢◌, ◌+◌, ◌-◌, ◌*◌, ◌^◌, ◌<◌, ◌≤◌, ℕ, zero, suc, ℤ, pos, negsuc, neg_ℤ, List, ◌∷◌, length, take, get_or, set, w32, to_z, of_z, inl, inr, refl, sym, ◌∙◌, subst, arith, add-one}
+-- Lemmas on columns that are read while their text is.
+use Rattle.std.proofs.Common.{◌≡◌, ◌≢◌, ◌+◌, ◌-◌, ◌*◌, ◌^◌, ◌<◌, ◌≤◌, ℕ, zero, suc, ℤ, pos, negsuc, neg_ℤ, List, [], ◌∷◌, ◌++◌, length, take, get_or, set, w32, to_z, of_z, inl, inr, refl, sym, ap, ◌∙◌, subst, arith, add-one}
 use Rattle.std.specs.Int.{IsInRange}
 use Rattle.std.specs.Str.Parse.{AllDigits, digits_value}
 use Rattle.std.proofs.lemmas.Bool.{cases_order}
 use Rattle.std.proofs.lemmas.Int.Digits.{digits_value_more}
-use Rattle.std.proofs.lemmas.List.{length-take-le, length-set, same_lists, get_or_default, get_or-set_same, get_or-set_other}
+use Rattle.std.proofs.lemmas.List.{length-append, length-take, length-take-le, length-set, get_or-set_same, get_or-set_other, get_or-append_right}
 use Rattle.std.proofs.lemmas.Str.Parse.{IsNumeralModel, digit_at, digits_value_short, numerals_by_value, tells_digits}
+use Rattle.flight_samples.specs.Columns.{IsIn}
 use Rattle.flight_samples.specs.Decimals.{IsIntegerText, IsNaturalText, IsNumberText}
-use Rattle.flight_samples.specs.SampleText.{AreSampleValues, HasNoComma, IsValueAt, column_count}
+use Rattle.flight_samples.specs.SampleText.{AreSampleValues, HasNoComma, IsValueAt, column_count, range_at}
 use Rattle.flight_samples.proofs.ColumnLemmas.{kept_value}
 use Rattle.flight_samples.proofs.DecimalLemmas.{digit_value_is}
 use Rattle.flight_samples.proofs.SplitLemmas.{no_comma}
@@ -31,26 +32,30 @@ value_more ds i v digit within is =
     let at = digit_value_is (get_or ds i 0) digit in
     omega (arith, digits_value_more 10 ds i within, at, is)
 
--- One more byte that is the same.
-pub same_more : (xs ys : List ℕ) (i : ℕ) → ((k : ℕ) → k < i → get_or xs k 0 ≡ get_or ys k 0) → get_or xs i 0 ≡ get_or ys i 0
-    → (k : ℕ) → k < i + 1 → get_or xs k 0 ≡ get_or ys k 0
-same_more xs ys i before here k below = elim (cases_order k i) [
-  | inl e ↦ subst (λ j. get_or xs j 0 ≡ get_or ys j 0) (sym e) here
-  | inr (inl under) ↦ before k under
-  | inr (inr over) ↦ absurd (omega arith)
-]
-
--- Bytes that are the same throughout.
-pub all_same : (xs ys : List ℕ) (i : ℕ) → length ys ≡ length xs → length xs ≤ i → ((k : ℕ) → k < i → get_or xs k 0 ≡ get_or ys k 0) → ys ≡ xs
-all_same xs ys i size end same =
-    sym (same_lists xs ys (sym size) (λ k d within.
-    get_or_default xs k d 0 within ∙ same k (omega arith) ∙ get_or_default ys k 0 d (omega arith)))
-
 -- The number below 0 whose text is these digits after a `-`.
 pub negative_is : (v : ℕ) (w : ℤ) (digits : List ℕ) → IsNaturalText v digits → v ≢ 0 → w ≡ neg_ℤ (pos v)
     → (m : ℕ) × (w ≡ negsuc m) × IsNaturalText (m + 1) digits
 negative_is zero w digits text some is = absurd (some refl)
 negative_is (suc m) w digits text some is = (m, is, rw add-one text)
+
+-- Where the columns are so many of them, this one, and those behind it, this one stands at that place.
+pub column_here : (columns behind : List (List ℕ)) (column : List ℕ) (place : ℕ) → columns ≡ take place columns ++ column ∷ behind
+    → (place < length columns) × (get_or columns place [] ≡ column)
+column_here columns behind column place are =
+    let size = ap length are ∙ length-append (take place columns) (column ∷ behind) in
+    let front = length-take place columns in
+    let before : length (take place columns) ≡ place = omega (arith, size, front) in
+    let first : place - place ≡ 0 = omega arith in (
+      omega (arith, size, before),
+      ap (λ all. get_or all place []) are
+          ∙ get_or-append_right (take place columns) (column ∷ behind) place place [] before (omega arith) ∙ ap (λ k. get_or (column ∷ behind) k []) first,
+    )
+
+-- What is read of that column is read at its place.
+pub column_read : (columns : List (List ℕ)) (column : List ℕ) (place : ℕ) (z : ℤ) → get_or columns place [] ≡ column
+    → IsNumberText (range_at place).low z column → IsIn (range_at place) z → IsValueAt columns place z
+column_read columns column place z here number within =
+    record { written = subst (IsNumberText (range_at place).low z) (sym here) number; within = within }
 
 -- The text of a number has no comma.
 natural_has_no_comma : (n : ℕ) (text : List ℕ) → IsNaturalText n text → HasNoComma text
@@ -83,14 +88,13 @@ read_more fields values place z count inside here before earlier below = elim (c
   | inr (inr over) ↦ absurd (omega arith)
 ]
 
--- The columns of a text that are these fields have the values that were read of the fields.
-pub all_read : (fields columns : List (List ℕ)) (values : List ℤ) (place : ℕ) (z : ℤ) → fields ≡ columns → length fields ≡ column_count
-    → length values ≡ column_count → place + 1 ≡ column_count → IsValueAt fields place z
-    → ((earlier : ℕ) → earlier < place → IsValueAt fields earlier (get_or values earlier (pos 0)))
+-- The columns have the values that were read, up to the last.
+pub all_read : (columns : List (List ℕ)) (values : List ℤ) (place : ℕ) (z : ℤ) → length columns ≡ column_count
+    → length values ≡ column_count → place + 1 ≡ column_count → IsValueAt columns place z
+    → ((earlier : ℕ) → earlier < place → IsValueAt columns earlier (get_or values earlier (pos 0)))
     → AreSampleValues columns (set values place (to_z w32 (of_z w32 z)))
-all_read fields columns values place z are field_count value_count last here before =
-    subst (λ f. AreSampleValues f (set values place (to_z w32 (of_z w32 z)))) are (record {
-      field_count = field_count;
-      value_count = length-set values place (to_z w32 (of_z w32 z)) ∙ value_count;
-      each = λ k within. read_more fields values place z value_count (omega (arith, last)) here before k (omega (arith, last, within));
-    })
+all_read columns values place z column_count_is value_count last here before = record {
+  field_count = column_count_is;
+  value_count = length-set values place (to_z w32 (of_z w32 z)) ∙ value_count;
+  each = λ k within. read_more columns values place z value_count (omega (arith, last)) here before k (omega (arith, last, within));
+}

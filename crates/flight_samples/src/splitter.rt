@@ -36,7 +36,7 @@ impl Splitter {
         }
     }
 
-    /// The sample of the text, where the kept reader gives a row that is seen to have its columns in one pass.
+    /// The sample of the text, where its columns are as long as the fields of the row that the kept reader gives.
     pub(crate) fn sample(&mut self, text: &[u8]) -> Option<Sample>
         ensures { IfSome result (λ sample. IsSampleText sample text.now) }
     {
