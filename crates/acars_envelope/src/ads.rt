@@ -10,7 +10,7 @@ ghost use Rattle.acars_envelope.specs.Faults.{AreRight, IsAdsFault, IsFirstBad, 
 ghost use Rattle.acars_envelope.specs.Names.{IsRegistration};
 ghost use Rattle.acars_envelope.specs.Texts.{four_digits};
 
-use crate::decoding::decoded;
+use crate::decoding::append_octets;
 use crate::names::Registration;
 use crate::places::{check_digits, check_last_digits};
 use crate::refusal::{EnvelopeRefusal, EnvelopeWhy, refused};
@@ -30,7 +30,8 @@ pub(crate) fn read_ads(text: &[u8]) -> Result<Body, EnvelopeRefusal>
     let registration = read_registration(text)?;
     check_payload_digits(text)?;
     check_payload_size(text)?;
-    let payload = payload_of(text);
+    let mut payload = ArrayVec::new();
+    append_payload(text, &mut payload);
     check_last_digits(text, check_of_ads(&registration, payload.as_slice()))?;
     Ok(Body::Ads {
         registration,
@@ -126,15 +127,16 @@ fn check_payload_size(text: &[u8]) -> Result<(), EnvelopeRefusal>
     Ok(())
 }
 
-/// The octets whose digits stand from place 19 up to the check.
-fn payload_of(text: &[u8]) -> ArrayVec<u8, 255>
+/// Puts the octets whose digits stand from place 19 up to the check into a payload without any.
+fn append_payload(text: &[u8], payload: &mut ArrayVec<u8, 255>)
+    requires empty { array_vec_len payload.old ≡ 0 }
     requires long { 25 ≤ length text.now }
     requires short { length text.now ≤ 533 }
     requires even { (length text.now - 19) % 2 ≡ 0 }
     requires digits { AreRight (is_right_digit text.now) 19 (length text.now) }
-    ensures size { (1 ≤ array_vec_len result) × (array_vec_len result ≤ 255) }
-    ensures bytes { IsBytes result.items }
-    ensures spelled { slice_range text.now 19 (length text.now - 4) ≡ encode_upper result.items }
+    ensures size { (1 ≤ array_vec_len payload.new) × (array_vec_len payload.new ≤ 255) }
+    ensures bytes { IsBytes payload.new.items }
+    ensures spelled { slice_range text.now 19 (length text.now - 4) ≡ encode_upper payload.new.items }
 {
-    decoded(&text[19..text.len() - 4])
+    append_octets(payload, &text[19..text.len() - 4]);
 }

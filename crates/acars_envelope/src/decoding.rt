@@ -5,7 +5,7 @@ ghost use Rattle.arrayvec.specs.ArrayVec.{array_vec_len};
 ghost use Rattle.hex.specs.Hex.{IsBytes, encode_upper};
 ghost use Rattle.acars_envelope.specs.Faults.{is_capital_digit};
 
-use crate::pieces::held;
+use crate::pieces::append;
 use arrayvec::ArrayVec;
 
 /// The octets that hexadecimal digits spell, two digits an octet, or None where the text isn't an even
@@ -39,21 +39,23 @@ fn read_octets(text: &[u8]) -> Option<ArrayVec<u8, 255>>
     if !text.iter().all(|c| is_capital_digit(*c)) {
         return None;
     }
-    Some(decoded(text))
+    let mut octets = ArrayVec::new();
+    append_octets(&mut octets, text);
+    Some(octets)
 }
 
-/// The octets that digits spell.
-pub(crate) fn decoded(digits: &[u8]) -> ArrayVec<u8, 255>
+/// Puts the octets that digits spell into a list without any.
+pub(crate) fn append_octets(octets: &mut ArrayVec<u8, 255>, digits: &[u8])
+    requires empty { array_vec_len octets.old ≡ 0 }
     requires few { length digits.now ≤ 510 }
     requires even { length digits.now % 2 ≡ 0 }
     requires capital { AllPass is_capital_digit digits.now }
-    ensures spelled { digits.now ≡ encode_upper result.items }
-    ensures bytes { IsBytes result.items }
-    ensures len { 2 * array_vec_len result ≡ length digits.now }
+    ensures spelled { digits.now ≡ encode_upper octets.new.items }
+    ensures bytes { IsBytes octets.new.items }
+    ensures len { 2 * array_vec_len octets.new ≡ length digits.now }
 {
-    let mut octets = held(&digits[..digits.len() / 2]);
+    append(octets, &digits[..digits.len() / 2]);
     decode(digits, octets.as_mut_slice());
-    octets
 }
 
 /// Writes the octets that digits spell over a slice of half their number.

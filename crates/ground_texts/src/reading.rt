@@ -1,10 +1,10 @@
 //! A text from the ground, read.
 
 ghost use Rattle.std.specs.Prelude.{◌≡◌};
-ghost use Rattle.ground_texts.specs.Readings.{ReadsAnswer, ReadsBody, ReadsPayload, ReadsText};
+ghost use Rattle.ground_texts.specs.Readings.{ReadsAnswer, ReadsPayload, ReadsText};
 
 use crate::ground_text::{AdsUplink, AfnUplink, GroundText};
-use acars_envelope::{Address, Body, unseal};
+use acars_envelope::{Body, Envelope, unseal};
 use adsc_requests::{Refusal, Uplink, decode_uplink};
 use afn_logon::{AfnRefusal, Answer, read_answer};
 
@@ -15,16 +15,10 @@ use afn_logon::{AfnRefusal, Answer, read_answer};
 pub fn read_ground_text(text: &[u8]) -> GroundText
     ensures { ReadsText text.now result }
 {
-    match unseal(text) {
-        Ok(envelope) => read_body(envelope.address, envelope.body),
-        Err(fault) => GroundText::Refused(fault),
-    }
-}
-
-/// What the body of an envelope from this address says.
-fn read_body(address: Address, body: Body) -> GroundText
-    ensures { ReadsBody address body result }
-{
+    let Envelope { address, body, .. } = match unseal(text) {
+        Ok(envelope) => envelope,
+        Err(fault) => return GroundText::Refused(fault),
+    };
     match body {
         Body::Ads {
             registration,

@@ -1,5 +1,12 @@
-use Rattle.ground_texts.proofs.TextLaws.{text_of_body}
+use Rattle.std.proofs.Common.{refl}
 use Rattle.ground_texts.proofs.reading.read_ground_text.Goals as goal
 
-pub returns-in-Ok : goal.returns-in-Ok
-returns-in-Ok c = text_of_body c.args.text.now c.in-Ok.envelope c.read_body.result c.in-Ok.ensures.found c.read_body.ensures
+pub returns-in-Ads : goal.returns-in-Ads
+returns-in-Ads c =
+    let reads = rw c.as_slice.ensures.value at c.read_payload-asked.ensures in
+    (c.in-Ok.envelope, c.in-Ok.ensures.found, rw c.in-Ads.is (refl, refl, refl, reads))
+
+pub returns-in-Afn : goal.returns-in-Afn
+returns-in-Afn c =
+    let reads = rw c.as_slice-in-Afn.ensures.value at c.read_characters.ensures in
+    (c.in-Ok.envelope, c.in-Ok.ensures.found, rw c.in-Afn.is (refl, reads))
