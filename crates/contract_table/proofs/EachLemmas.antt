@@ -2,7 +2,7 @@
 use Rattle.std.proofs.Common.{◌≡◌, ℕ, ◌+◌, ◌<◌, ◌≤◌, List, [], ◌∷◌, ◌++◌, flat_map, length, get_or, set, take, drop, ap, sym, ◌∙◌, subst, arith, add-zero}
 use Rattle.std.specs.List.{AllZip}
 use Rattle.std.proofs.lemmas.Grind.{flat_map-append}
-use Rattle.std.proofs.lemmas.List.{append-nil, get_or-drop, take_more, drop_more, take_more_set, drop-set-lt, take_all}
+use Rattle.std.proofs.lemmas.List.{append_assoc, append-nil, get_or-drop, take_more, drop_more, take_more_set, drop-set-lt, take_all}
 use Rattle.std.proofs.lemmas.List.Elements.{AllZip-push}
 
 module _ {X : Type 0} (old now : List X) (i : ℕ) (rest : drop i now ≡ drop i old) where
@@ -28,15 +28,16 @@ done_more R old now i x d in_old in_now done here =
     (subst (λ xs. AllZip R xs (take i now ++ x ∷ [])) (sym (take_more old i d in_old)) (AllZip-push R (take i old) (take i now) (get_or old i d) x done here))
 
 -- What one more element gives is joined.
-pub given_more : {X A : Type 0} (f : X → List A) (old : List X) (i : ℕ) (d : X) (before after : List A) → i < length old
-    → before ≡ flat_map f (take i old) → after ≡ before ++ f (get_or old i d)
-    → after ≡ flat_map f (take (i + 1) old)
-given_more f old i d before after in_old so_far here =
+pub given_more : {X A : Type 0} (f : X → List A) (old : List X) (i : ℕ) (d : X) (first before after : List A) → i < length old
+    → before ≡ first ++ flat_map f (take i old) → after ≡ before ++ f (get_or old i d)
+    → after ≡ first ++ flat_map f (take (i + 1) old)
+given_more f old i d first before after in_old so_far here =
     here
     ∙ ap (λ items. items ++ f (get_or old i d)) so_far
-    ∙ ap (λ items. flat_map f (take i old) ++ items) (sym (append-nil (f (get_or old i d))))
-    ∙ sym (flat_map-append f (take i old) (get_or old i d ∷ []))
-    ∙ ap (flat_map f) (sym (take_more old i d in_old))
+    ∙ append_assoc first (flat_map f (take i old)) (f (get_or old i d))
+    ∙ ap (λ items. first ++ (flat_map f (take i old) ++ items)) (sym (append-nil (f (get_or old i d))))
+    ∙ ap (λ items. first ++ items) (sym (flat_map-append f (take i old) (get_or old i d ∷ [])))
+    ∙ ap (λ xs. first ++ flat_map f xs) (sym (take_more old i d in_old))
 
 -- At the end all are done.
 pub all_done : {X : Type 0} (R : X → X → Type 0) (old now : List X) (i : ℕ) → length old ≤ i → length now ≤ i

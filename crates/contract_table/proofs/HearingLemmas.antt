@@ -130,39 +130,35 @@ module _ (profile : Profile) (link place time : ℕ) (message : Message) (slice 
   here = is ∙ same_kept before slice place kept none same stands.inside
 
   -- What is due at it.
-  heard_due : (none_yet dues : Dues) → dues_in none_yet ≡ []
-      → dues_in dues ≡ dues_in none_yet ++ due_by message (Some (connection_seen kept))
-      → dues_in dues ≡ due_by message (Some (connection_seen (get_or before place none)))
-  heard_due none_yet dues empty added =
-      added
-      ∙ ap (λ items. items ++ due_by message (Some (connection_seen kept))) empty
-      ∙ ap (λ kept. due_by message (Some (connection_seen kept))) here
+  heard_due : (dues more : Dues) → dues_in more ≡ dues_in dues ++ due_by message (Some (connection_seen kept))
+      → dues_in more ≡ dues_in dues ++ due_by message (Some (connection_seen (get_or before place none)))
+  heard_due dues more added = added ∙ ap (λ kept. dues_in dues ++ due_by message (Some (connection_seen kept))) here
 
-  pub heard_accepted : (after : List Connection) (none_yet dues : Dues) → Accepted ≡ verdict_by (connection_seen kept) message
+  pub heard_accepted : (after : List Connection) (dues more : Dues) → Accepted ≡ verdict_by (connection_seen kept) message
       → IsAcceptedAt place profile time message before after → All (IsSound time) before
-      → dues_in none_yet ≡ [] → dues_in dues ≡ dues_in none_yet ++ due_by message (Some (connection_seen kept))
-      → IsHeard profile time message (Some (connection_seen (get_or before place none))) before after dues
-  heard_accepted after none_yet dues verdict taken sound empty added =
+      → dues_in more ≡ dues_in dues ++ due_by message (Some (connection_seen kept))
+      → IsHeard profile time message (Some (connection_seen (get_or before place none))) before after dues more
+  heard_accepted after dues more verdict taken sound added =
       record {
         next = accepted_at link place time profile message before after stands taken none
             ∙ ap (links_after profile time message (connection_seen (get_or before place none)) (map connection_seen before))
             (verdict ∙ ap (λ kept. verdict_by (connection_seen kept) message) here);
         sound = sound_at link place time profile message before after stands taken sound;
-        due = heard_due none_yet dues empty added;
+        due = heard_due dues more added;
       }
 
-  pub heard_ended : (after : List Connection) (none_yet dues : Dues) → Ended ≡ verdict_by (connection_seen kept) message
+  pub heard_ended : (after : List Connection) (dues more : Dues) → Ended ≡ verdict_by (connection_seen kept) message
       → IsRising (map link_of (map connection_seen before)) → after ≡ remove before place → All (IsSound time) before
-      → dues_in none_yet ≡ [] → dues_in dues ≡ dues_in none_yet ++ due_by message (Some (connection_seen kept))
-      → IsHeard profile time message (Some (connection_seen (get_or before place none))) before after dues
-  heard_ended after none_yet dues verdict rising removed sound empty added =
+      → dues_in more ≡ dues_in dues ++ due_by message (Some (connection_seen kept))
+      → IsHeard profile time message (Some (connection_seen (get_or before place none))) before after dues more
+  heard_ended after dues more verdict rising removed sound added =
       record {
         next = ap (map connection_seen) removed
             ∙ ended_at link place before rising stands none
             ∙ ap (links_after profile time message (connection_seen (get_or before place none)) (map connection_seen before))
             (verdict ∙ ap (λ kept. verdict_by (connection_seen kept) message) here);
         sound = subst (All (IsSound time)) (sym removed) (all_removed (IsSound time) before place sound);
-        due = heard_due none_yet dues empty added;
+        due = heard_due dues more added;
       }
 
 -- ---- room

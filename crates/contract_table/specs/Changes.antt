@@ -1,5 +1,5 @@
 -- What an act makes of the live links as a table keeps them. These records serve private contracts.
-use Rattle.std.specs.Prelude.{◌≡◌, ℕ, List, map, Option, All, slice_index_or, slice_set}
+use Rattle.std.specs.Prelude.{◌≡◌, ℕ, List, ◌++◌, map, Option, All, slice_index_or, slice_set}
 use Rattle.contract_rules.specs.Configuration.{Profile}
 use Rattle.contract_rules.specs.Acts.{Act}
 use Rattle.contract_rules.specs.Messages.{Message}
@@ -26,8 +26,9 @@ pub record IsAcceptedAt (place : ℕ) (profile : Profile) (time : ℕ) (message 
   pub link : (none : Connection) → now.link ≡ (slice_index_or before place none).link
   pub sound : IsSound time now
 
--- A message that finds this link, if it finds one: the live links after it, and what is due at it.
-pub record IsHeard (profile : Profile) (time : ℕ) (message : Message) (found : Option Seen) (before after : List Connection) (dues : Dues) : Type 0 where
+-- A message that finds this link, if it finds one: the live links after it, and what is due at it,
+-- which is added.
+pub record IsHeard (profile : Profile) (time : ℕ) (message : Message) (found : Option Seen) (before after : List Connection) (dues more : Dues) : Type 0 where
   pub next : map connection_seen after ≡ heard_by profile time message (map connection_seen before) found
   pub sound : All (IsSound time) after
-  pub due : dues_in dues ≡ due_by message found
+  pub due : dues_in more ≡ dues_in dues ++ due_by message found

@@ -31,7 +31,8 @@ const MAX_LIVE_LINKS: usize = 5;
 /// The live links, by rising link.
 pub(crate) type Connections = ArrayVec<Connection, MAX_LIVE_LINKS>;
 
-/// A message of a link. A live link hears it, and a request admits its link where there is room.
+/// A message of a link. A live link hears it, and a request admits its link where there is room. What is due is added
+/// to `dues`.
 pub(crate) fn hear(
     connections: &mut Connections,
     configuration: &Configuration,
@@ -39,13 +40,15 @@ pub(crate) fn hear(
     time: u32,
     link: u8,
     message: &Message,
-) -> Dues
+    dues: &mut Dues,
+)
     requires rising { IsRising (map link_of (map connection_seen connections.old.items)) }
     requires sound { All (IsSound time) connections.old.items }
     requires room { HasPlace configuration.now.reserved link (map connection_seen connections.old.items) }
+    requires fits { array_vec_len dues.old.list + 2 ≤ 24 }
     ensures { IsHeard (rules_profile configuration.now.profile) time (rules_message message.now)
         (found_by configuration.now.reserved crew time link (rules_message message.now) (map connection_seen connections.old.items))
-        connections.old.items connections.new.items result }
+        connections.old.items connections.new.items dues.old dues.new }
 {
     match place_of(connections.as_slice(), link) {
         Ok(place) => hear_at(
@@ -55,12 +58,22 @@ pub(crate) fn hear(
             configuration.profile,
             message,
             time,
+            dues,
         ),
-        Err(place) => hear_new(connections, place, configuration, crew, time, link, message),
+        Err(place) => hear_new(
+            connections,
+            place,
+            configuration,
+            crew,
+            time,
+            link,
+            message,
+            dues,
+        ),
     }
 }
 
-/// A message of a link that is not live, and would stand at this place.
+/// A message of a link that is not live, and would stand at this place. What is due is added to `dues`.
 fn hear_new(
     connections: &mut Connections,
     place: usize,
@@ -69,24 +82,33 @@ fn hear_new(
     time: u32,
     link: u8,
     message: &Message,
-) -> Dues
+    dues: &mut Dues,
+)
     requires place { WouldStandAt link connections.old.items place }
     requires rising { IsRising (map link_of (map connection_seen connections.old.items)) }
     requires sound { All (IsSound time) connections.old.items }
     requires room { HasPlace configuration.now.reserved link (map connection_seen connections.old.items) }
+    requires fits { array_vec_len dues.old.list + 2 ≤ 24 }
     ensures { IsHeard (rules_profile configuration.now.profile) time (rules_message message.now)
         (found_by configuration.now.reserved crew time link (rules_message message.now) (map connection_seen connections.old.items))
-        connections.old.items connections.new.items result }
+        connections.old.items connections.new.items dues.old dues.new }
 {
     if is_request(message) {
-        hear_request(connections, place, configuration, crew, time, link, message)
-    } else {
-        Dues::none()
+        hear_request(
+            connections,
+            place,
+            configuration,
+            crew,
+            time,
+            link,
+            message,
+            dues,
+        );
     }
 }
 
 /// A request of a link that is not live: where there is room for the link, it is admitted at the place at which it would
-/// stand.
+/// stand. What is due is added to `dues`.
 fn hear_request(
     connections: &mut Connections,
     place: usize,
@@ -95,35 +117,39 @@ fn hear_request(
     time: u32,
     link: u8,
     request: &Message,
-) -> Dues
+    dues: &mut Dues,
+)
     requires place { WouldStandAt link connections.old.items place }
     requires rising { IsRising (map link_of (map connection_seen connections.old.items)) }
     requires sound { All (IsSound time) connections.old.items }
     requires room { HasPlace configuration.now.reserved link (map connection_seen connections.old.items) }
+    requires fits { array_vec_len dues.old.list + 2 ≤ 24 }
     requires asked { is_request (rules_message request.now) ≡ true }
     ensures { IsHeard (rules_profile configuration.now.profile) time (rules_message request.now)
         (admitted_where configuration.now.reserved crew time link (map connection_seen connections.old.items))
-        connections.old.items connections.new.items result }
+        connections.old.items connections.new.items dues.old dues.new }
 {
-    let mut dues = Dues::none();
     if has_room(connections.as_slice(), configuration.reserved, link) {
-        let connection = admit(link, crew, time, configuration.profile, request, &mut dues);
+        let connection = admit(link, crew, time, configuration.profile, request, dues);
         connections.insert(place, connection);
     }
-    dues
 }
 
-/// What is due at a payload of a link that could not be read: a negative acknowledgement, where the link is live.
-pub(crate) fn answer_malformed(connections: &[Connection], link: u8, refusal: &Refusal) -> Dues
-    requires { IsRising (map link_of (map connection_seen connections.now)) }
-    ensures { dues_in result
-        ≡ due_of_malformed link (rules_fault refusal.now) (connection_on link (map connection_seen connections.now)) }
+/// Adds what is due at a payload of a link that could not be read: a negative acknowledgement, where the link is live.
+pub(crate) fn answer_malformed(
+    connections: &[Connection],
+    link: u8,
+    refusal: &Refusal,
+    dues: &mut Dues,
+)
+    requires rising { IsRising (map link_of (map connection_seen connections.now)) }
+    requires fits { array_vec_len dues.old.list < 24 }
+    ensures { dues_in dues.new ≡ dues_in dues.old
+        ++ due_of_malformed link (rules_fault refusal.now) (connection_on link (map connection_seen connections.now)) }
 {
-    let mut dues = Dues::none();
     if is_live(connections, link) {
         dues.push(link, negative_acknowledgement(refusal));
     }
-    dues
 }
 
 /// Whether a link is among the live ones.
@@ -137,7 +163,7 @@ pub(crate) fn is_live(connections: &[Connection], link: u8) -> bool
     }
 }
 
-/// A message of the live link at this place.
+/// A message of the live link at this place. What is due is added to `dues`.
 fn hear_at(
     connections: &mut Connections,
     place: usize,
@@ -145,21 +171,21 @@ fn hear_at(
     profile: Profile,
     message: &Message,
     time: u32,
-) -> Dues
+    dues: &mut Dues,
+)
     requires place { StandsAt link connections.old.items place }
     requires rising { IsRising (map link_of (map connection_seen connections.old.items)) }
     requires sound { All (IsSound time) connections.old.items }
+    requires fits { array_vec_len dues.old.list + 2 ≤ 24 }
     ensures { (none : Connection) → IsHeard (rules_profile profile) time (rules_message message.now)
         (Some (connection_seen (slice_index_or connections.old.items place none)))
-        connections.old.items connections.new.items result }
+        connections.old.items connections.new.items dues.old dues.new }
 {
-    let mut dues = Dues::none();
-    match answer(&connections.as_slice()[place], message, &mut dues) {
+    match answer(&connections.as_slice()[place], message, dues) {
         Verdict::Accepted => accept_at(connections, place, profile, message, time),
         Verdict::Ended => end_at(connections, place),
         Verdict::Refused { .. } | Verdict::Repeated => {}
     }
-    dues
 }
 
 /// Adds what is due at a message of a live link, and tells the verdict on it.

@@ -15,23 +15,29 @@ use crate::act::Act;
 use crate::connection::Connection;
 use crate::due::Dues;
 
-/// An act of the flight on every live link, as time moves from `time` to `later`: what is due, by rising link.
-pub(crate) fn fly_all(connections: &mut [Connection], act: &Act, time: u32, later: u32) -> Dues
+/// An act of the flight on every live link, as time moves from `time` to `later`. What is due is added to `dues`, by
+/// rising link.
+pub(crate) fn fly_all(
+    connections: &mut [Connection],
+    act: &Act,
+    time: u32,
+    later: u32,
+    dues: &mut Dues,
+)
     requires few { length connections.old ≤ 5 }
+    requires fits { array_vec_len dues.old.list + 20 ≤ 24 }
     requires later { later ≡ later_of time (rules_act act.now) }
     requires limit { later ≤ last_moment }
     requires sound { All (IsSound time) connections.old }
     ensures next { map connection_seen connections.new
         ≡ map (flown time (rules_act act.now)) (map connection_seen connections.old) }
     ensures sound { All (IsSound later) connections.new }
-    ensures dues { dues_in result
-        ≡ flat_map (dues_flown time (rules_act act.now)) (map connection_seen connections.old) }
+    ensures dues { dues_in dues.new
+        ≡ dues_in dues.old ++ flat_map (dues_flown time (rules_act act.now)) (map connection_seen connections.old) }
 {
-    let mut dues = Dues::none();
     for connection in connections.iter_mut() {
-        connection.fly(act, time, later, &mut dues);
+        connection.fly(act, time, later, dues);
     }
-    dues
 }
 
 impl Connection {

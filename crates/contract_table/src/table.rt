@@ -1,7 +1,8 @@
 //! The contracts of an aircraft's links: what is due at each act.
 
-ghost use Rattle.std.specs.Prelude.{◌≡◌, ℕ, ◌<◌, ◌≤◌, List, [], ◌∷◌, All, map};
+ghost use Rattle.std.specs.Prelude.{◌≡◌, ℕ, ◌+◌, ◌<◌, ◌≤◌, List, [], ◌∷◌, ◌++◌, All, map};
 ghost use Rattle.std.specs.Option.{ForSome};
+ghost use Rattle.arrayvec.specs.ArrayVec.{array_vec_len};
 ghost use Rattle.contract_rules.specs.Acts.{Act as RulesAct, later_of};
 ghost use Rattle.contract_rules.specs.Configuration.{Configuration as RulesConfiguration};
 ghost use Rattle.contract_rules.specs.LiveLinks.{is_live, time_after};
@@ -85,6 +86,7 @@ impl Table {
         let later = later_of(time, act);
         self.time = later;
         self.crew = crew_after(crew, act);
+        let mut dues = Dues::none();
         take(
             &mut self.connections,
             &self.configuration,
@@ -92,7 +94,9 @@ impl Table {
             time,
             later,
             act,
-        )
+            &mut dues,
+        );
+        dues
     }
 
     /// The time in seconds: the greatest tick so far, or 0.
@@ -133,7 +137,7 @@ fn crew_after(crew: bool, act: &Act) -> bool
     }
 }
 
-/// An act on the live links, as time moves from `time` to `later`: what is due, by rising link.
+/// An act on the live links, as time moves from `time` to `later`. What is due is added to `dues`, by rising link.
 fn take(
     connections: &mut Connections,
     configuration: &Configuration,
@@ -141,26 +145,37 @@ fn take(
     time: u32,
     later: u32,
     act: &Act,
-) -> Dues
+    dues: &mut Dues,
+)
     requires ordered { IsOrdered configuration.now.reserved (map connection_seen connections.old.items) }
     requires sound { All (IsSound time) connections.old.items }
     requires later { later ≡ later_of time (rules_act act.now) }
     requires limit { later ≤ last_moment }
+    requires fits { array_vec_len dues.old.list + 20 ≤ 24 }
     ensures next { (links : ℕ) → map connection_seen connections.new.items
         ≡ connections_next (rules_act act.now) (table_seen links configuration.now time crew connections.old.items) }
     ensures sound { All (IsSound later) connections.new.items }
-    ensures dues { (links : ℕ) → dues_in result
-        ≡ table_dues (rules_act act.now) (table_seen links configuration.now time crew connections.old.items) }
+    ensures dues { (links : ℕ) → dues_in dues.new
+        ≡ dues_in dues.old ++ table_dues (rules_act act.now) (table_seen links configuration.now time crew connections.old.items) }
 {
     match act {
-        Act::Said { link, message } => hear(connections, configuration, crew, time, *link, message),
+        Act::Said { link, message } => hear(
+            connections,
+            configuration,
+            crew,
+            time,
+            *link,
+            message,
+            dues,
+        ),
         Act::Malformed { link, refusal } => answer_malformed(
             connections.as_slice(),
             *link,
             refusal,
+            dues,
         ),
         Act::Moved { .. } | Act::Ticked { .. } | Act::Crew { .. } => {
-            fly_all(connections.as_mut_slice(), act, time, later)
+            fly_all(connections.as_mut_slice(), act, time, later, dues);
         }
     }
 }

@@ -1,8 +1,8 @@
-use Rattle.std.proofs.Common.{◌∙◌, ◌++◌, All, Some, ap, arith, map, subst, sym}
+use Rattle.std.proofs.Common.{◌∙◌, ◌++◌, All, ap, arith, map, subst, sym}
 use Rattle.due_event.specs.RuleTerms.{rules_profile}
 use Rattle.contract_table.specs.Acts.{rules_message}
+use Rattle.contract_table.specs.Dues.{dues_in}
 use Rattle.contract_table.specs.Messages.{due_by, heard_by}
-use Rattle.contract_table.specs.NextConnection.{admitted}
 use Rattle.contract_table.specs.Seen.{connection_seen}
 use Rattle.contract_table.specs.Sound.{IsSound}
 use Rattle.contract_table.proofs.PlaceOnLink.{admitted_by_room, all_inserted, heard_admitted, place_left}
@@ -30,6 +30,5 @@ returns-then-has_room c =
       sound = subst (All (IsSound c.args.time)) (sym c.insert.ensures.items)
           (all_inserted (IsSound c.args.time) c.args.connections.now.items c.args.place c.admit-connection.result c.admit-connection.ensures.sound c.requires.sound);
       due = c.admit-connection.ensures.dues
-          ∙ ap (λ items. items ++ due_by (rules_message c.args.request.now) (Some (admitted c.args.link c.args.crew c.args.time))) c.none-dues.ensures.items
-          ∙ ap (due_by (rules_message c.args.request.now)) found;
+          ∙ ap (λ found. dues_in c.args.dues.now ++ due_by (rules_message c.args.request.now) found) found;
     }

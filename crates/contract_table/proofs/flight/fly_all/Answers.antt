@@ -27,7 +27,7 @@ loop-connection-preserved c =
           in_old in_now c.loop-connection.invariant.flown
           (subst (λ (e : Connection). IsFlown c.args.time c.args.later (rules_act c.args.act.now) e c.fly.new.self) same c.fly.ensures.flown);
       dues = given_more (λ (e : Connection). dues_flown c.args.time (rules_act c.args.act.now) (connection_seen e)) c.args.connections.now c.loop-connection.connection-index c.connection-item.result
-          (dues_in c.loop-connection.dues) (dues_in c.fly.new.dues) in_old c.loop-connection.invariant.dues
+          (dues_in c.args.dues.now) (dues_in c.loop-connection.dues) (dues_in c.fly.new.dues) in_old c.loop-connection.invariant.dues
           (c.fly.ensures.dues ∙ ap (λ (e : Connection). dues_in c.loop-connection.dues ++ dues_flown c.args.time (rules_act c.args.act.now) (connection_seen e)) same);
       few = omega arith;
     }
@@ -41,6 +41,7 @@ returns c =
       next = flown_seen c.args.time c.args.later (rules_act c.args.act.now) c.args.connections.now c.loop-connection.connections done;
       sound = flown_sound c.args.time c.args.later (rules_act c.args.act.now) c.args.connections.now c.loop-connection.connections done;
       dues = c.loop-connection.invariant.dues
-          ∙ all_given (λ (e : Connection). dues_flown c.args.time (rules_act c.args.act.now) (connection_seen e)) c.args.connections.now c.loop-connection.connection-index ended_old
-          ∙ flat_map_seen (dues_flown c.args.time (rules_act c.args.act.now)) c.args.connections.now;
+          ∙ ap (λ items. dues_in c.args.dues.now ++ items)
+          (all_given (λ (e : Connection). dues_flown c.args.time (rules_act c.args.act.now) (connection_seen e)) c.args.connections.now c.loop-connection.connection-index ended_old
+          ∙ flat_map_seen (dues_flown c.args.time (rules_act c.args.act.now)) c.args.connections.now);
     }

@@ -1,8 +1,9 @@
-use Rattle.std.proofs.Common.{◌≡◌, ◌∙◌, List, ◌∷◌, rules, subst, sym}
+use Rattle.std.proofs.Common.{◌≡◌, ◌∙◌, List, ◌∷◌, ◌++◌, ap, rules, subst, sym}
 use Rattle.contract_rules.specs.Acts.{Act}
 use Rattle.contract_rules.specs.Verdicts.{past_of}
 use Rattle.contract_table.specs.Acts.{IsTaken, rules_act}
 use Rattle.contract_table.specs.Dues.{dues_in, dues_of}
+use Rattle.contract_table.specs.NextTable.{table_dues}
 use Rattle.contract_table.specs.Seen.{table_seen}
 use Rattle.contract_table.specs.Sound.{HasHistory}
 use Rattle.contract_table.specs.Tables.{StandsFor, TableState}
@@ -32,8 +33,10 @@ pub returns-clause-due : goal.returns-clause-due
 returns-clause-due c =
     let before = table_seen c.self.inside.links c.self.inside.configuration c.self.inside.time c.self.inside.crew c.self.inside.connections.items in
     subst (λ (t : TableState). IsTaken t.links c.args.act.now → (acts : List Act) → StandsFor t acts
-    → dues_in c.take.result ≡ dues_of t.configuration t.links (past_of t.configuration acts) (rules_act c.args.act.now)) c.self.view_is
-    (λ taken acts stands. c.take.ensures.dues c.self.inside.links ∙ dues_told before c.self.invariant.history c.args.act.now taken acts stands)
+    → dues_in c.take.new.dues ≡ dues_of t.configuration t.links (past_of t.configuration acts) (rules_act c.args.act.now)) c.self.view_is
+    (λ taken acts stands. c.take.ensures.dues c.self.inside.links
+    ∙ ap (λ items. items ++ table_dues (rules_act c.args.act.now) before) c.none-dues.ensures.items
+    ∙ dues_told before c.self.invariant.history c.args.act.now taken acts stands)
     c.requires
 
 pub returns-clause-stands : goal.returns-clause-stands
