@@ -21,9 +21,7 @@ use Rattle.run_rules.specs.declared.reading.Reading.{Reading}
 use Rattle.run_rules.specs.declared.reading.Reading.TheVariants.{Bad}
 use Rattle.run_rules.proofs.EachReading.{each_reading}
 use Rattle.run_rules.proofs.Scripts.{each_script}
-use Rattle.adsc_run.specs.Feeds.{HasRead, IsNext, IsReadAs, IsWhole}
-use Rattle.adsc_run.specs.declared.feed.Next.{Next}
-use Rattle.adsc_run.specs.declared.feed.Next.TheVariants as found
+use Rattle.adsc_run.specs.Feeds.{HasRead, IsWhole}
 
 -- ---- what a source told
 
@@ -162,15 +160,6 @@ text_was_read before now left reader next readings number line reading has call 
   where
     count : number ≡ length readings + 1
     count = omega (arith, numbered, call.passed, has.counted)
-
--- so it stands next
-pub text_is_next : (before now left : Option (List ℕ)) (reader next : LinesRead) (readings : List Reading) (number : ℕ) (line : List ℕ) (found : Next)
-    → HasRead before now reader readings → ReadsNext reader next now left (Ok answers.Text) → number ≡ next.number → line ≡ next.text → IsReadAs number line found
-    → IsNext before left next readings found
-text_is_next before now left reader next readings number line (found.Line reading) has call numbered same reads =
-    text_was_read before now left reader next readings number line reading has call numbered same reads
-text_is_next before now left reader next readings number line found.End has call numbered same reads = absurd reads
-text_is_next before now left reader next readings number line found.Limit has call numbered same reads = absurd reads
 
 -- a line that is too long was read
 pub long_was_read : (before now left : Option (List ℕ)) (reader next : LinesRead) (readings : List Reading)

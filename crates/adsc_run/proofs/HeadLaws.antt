@@ -18,11 +18,9 @@ use Rattle.run_rules.specs.declared.end.End.{End}
 use Rattle.run_rules.specs.declared.reading.Reading.{Reading}
 use Rattle.run_rules.specs.declared.reading.Reading.TheVariants.{Says, Brings}
 use Rattle.run_rules.proofs.EarlierLines.{head_begun, head_ended, head_gone_on, head_stopped}
-use Rattle.adsc_run.specs.Feeds.{HasRead, IsNext, IsWhole}
+use Rattle.adsc_run.specs.Feeds.{Found, end_met, limit_met, line_read, HasRead, IsNext, IsWhole}
 use Rattle.adsc_run.specs.Stations.{ends_bad}
 use Rattle.adsc_run.specs.UnderWay.{EndsInHead, IsInHead, IsInStage, StopsBy, StopsInHead, StopsSaying}
-use Rattle.adsc_run.specs.declared.feed.Next.{Next}
-use Rattle.adsc_run.specs.declared.feed.Next.TheVariants as next
 use Rattle.adsc_run.specs.declared.head.Stop.{Stop}
 use Rattle.adsc_run.specs.declared.head.Stop.TheVariants.{Ended, Fault}
 use Rattle.adsc_run.proofs.FeedLaws.{goes_on_somehow}
@@ -95,19 +93,19 @@ head_over before now reader count stage over end stood head whole is =
     })
 
 -- what stands next ends the run
-pub next_stops : (before now left : Option (List ℕ)) (reader behind : LinesRead) (number count : ℕ) (stage : Stage) (found : Next) (stop : Stop)
+pub next_stops : (before now left : Option (List ℕ)) (reader behind : LinesRead) (number count : ℕ) (stage : Stage) (found : Found) (stop : Stop)
     (stood : IsInStage before now reader count stage) → IsInHead stage → number ≡ count + 1 → IsNext before left behind stood.readings found
     → StopsBy number stage found stop → StopsInHead before stop
-next_stops before now left reader behind number count stage (next.Line reading) (Ended end) stood head numbered is how =
+next_stops before now left reader behind number count stage (line_read reading) (Ended end) stood head numbered is how =
     head_stops before now left reader behind count stage reading how.0 how.1 end stood head is
     (subst (λ n. step_of stage [] n reading ≡ stops how.0 how.1) numbered how.2) (how.3 ∙ ap (λ n. ends_bad n how.0 how.1) numbered)
-next_stops before now left reader behind number count stage next.End (Ended end) stood head numbered is how =
+next_stops before now left reader behind number count stage end_met (Ended end) stood head numbered is how =
     head_over before now reader count stage false end stood head is.0 (how ∙ ap (end_behind false stage) numbered)
-next_stops before now left reader behind number count stage next.Limit (Ended end) stood head numbered is how =
+next_stops before now left reader behind number count stage limit_met (Ended end) stood head numbered is how =
     head_over before now reader count stage true end stood head is (how ∙ ap (end_behind true stage) numbered)
-next_stops before now left reader behind number count stage (next.Line reading) (Fault fault) stood head numbered is how = absurd how
-next_stops before now left reader behind number count stage next.End (Fault fault) stood head numbered is how = absurd how
-next_stops before now left reader behind number count stage next.Limit (Fault fault) stood head numbered is how = absurd how
+next_stops before now left reader behind number count stage (line_read reading) (Fault fault) stood head numbered is how = absurd how
+next_stops before now left reader behind number count stage end_met (Fault fault) stood head numbered is how = absurd how
+next_stops before now left reader behind number count stage limit_met (Fault fault) stood head numbered is how = absurd how
 
 -- what a line says ends the run
 pub said_stops : (before now left : Option (List ℕ)) (reader behind : LinesRead) (count : ℕ) (stage : Stage) (said : ScriptLine) (stop : Stop)

@@ -28,13 +28,11 @@ use Rattle.run_rules.proofs.EarlierLines.{entered_below, has_begun, has_ended, h
 use Rattle.run_rules.proofs.Weaving.{taken_was_waiting}
 use Rattle.run_rules.proofs.LineEntries.{NoneOrOne, OfLine, one_of_line, own_downlinks}
 use Rattle.adsc_run.specs.Courses.{Did, HasEntered, HasGrown, StandsBehind}
-use Rattle.adsc_run.specs.Feeds.{HasRead, IsNext, IsWhole, passed}
+use Rattle.adsc_run.specs.Feeds.{Found, end_met, limit_met, line_read, HasRead, IsNext, IsWhole, passed}
 use Rattle.adsc_run.specs.Outcomes.{AreCentres, IsOutcome, journal_in, setting_in}
 use Rattle.adsc_run.specs.Stations.{StationStands, ends_bad}
 use Rattle.adsc_run.specs.declared.outcome.Outcome.{Outcome}
 use Rattle.adsc_run.specs.UnderWay.{CarriedOut, DidNext, HasEnded, IsAtNext, IsCarriedOn, IsEnding, IsInStage, IsOver, IsReadyFor, IsUnderWay, Stands}
-use Rattle.adsc_run.specs.declared.feed.Next.{Next}
-use Rattle.adsc_run.specs.declared.feed.Next.TheVariants as next
 use Rattle.adsc_run.specs.declared.course.Course.{Course}
 use Rattle.adsc_run.proofs.CourseLaws.{knows_on}
 use Rattle.adsc_run.proofs.FeedLaws.{goes_on_somehow}
@@ -362,7 +360,7 @@ ended_entered workers script course entered end ended none has =
 -- ---- one line more
 
 module _ (workers : ℕ) (before now : Option (List ℕ)) (reader : LinesRead) (reading : Reading) (course after : Course)
-    (at : IsAtNext workers before now reader course (next.Line reading)) where
+    (at : IsAtNext workers before now reader course (line_read reading)) where
   abbrev its_step : Step
   its_step = step_of (flying course.craft.setting) at.stands.log (length at.readings + 1) reading
 
@@ -413,10 +411,10 @@ ends_next workers before now readings course over end stands whole is done = rec
 }
 
 -- what stood next was carried out
-pub carried_on : (workers : ℕ) (before now : Option (List ℕ)) (reader : LinesRead) (number : ℕ) (found : Next) (course after : Course) (end : Option End)
+pub carried_on : (workers : ℕ) (before now : Option (List ℕ)) (reader : LinesRead) (number : ℕ) (found : Found) (course after : Course) (end : Option End)
     (at : IsAtNext workers before now reader course found) → number ≡ reader.number → IsReadyFor course found → DidNext found number at.stands.log course after end
     → IsCarriedOn workers before now reader after end
-carried_on workers before now reader number (next.Line reading) course after end at numbered ready did = by_kind (is_burst_line (Some reading)) refl
+carried_on workers before now reader number (line_read reading) course after end at numbered ready did = by_kind (is_burst_line (Some reading)) refl
   where
     here : Did (is_burst_line (Some reading)) (step_of (flying course.craft.setting) at.stands.log (length at.readings + 1) reading) (length at.readings + 1) at.stands.log course after end
     here = subst (λ n. Did (is_burst_line (Some reading)) (step_of (flying course.craft.setting) at.stands.log n reading) n at.stands.log course after end) (numbered ∙ at.counted) did
@@ -432,11 +430,11 @@ carried_on workers before now reader number (next.Line reading) course after end
     by_kind false other =
         alone workers before now reader reading course after at end (nothing_waits ready other)
         (subst (λ b. Did b (step_of (flying course.craft.setting) at.stands.log (length at.readings + 1) reading) (length at.readings + 1) at.stands.log course after end) other here)
-carried_on workers before now reader number next.End course after end at numbered ready did =
+carried_on workers before now reader number end_met course after end at numbered ready did =
     subst (λ e. IsCarriedOn workers before now reader after e) (sym did.0)
     (subst (λ c. IsEnding workers before now c Done) (sym did.1)
     (ends_next workers before now at.readings course false Done at.stands at.next.0 (λ setting. refl) (λ done. at.next.1)))
-carried_on workers before now reader number next.Limit course after end at numbered ready did =
+carried_on workers before now reader number limit_met course after end at numbered ready did =
     subst (λ e. IsCarriedOn workers before now reader after e) (sym did.0)
     (subst (λ c. IsEnding workers before now c (Limit (number + 1))) (sym did.1)
     (ends_next workers before now at.readings course true (Limit (number + 1)) at.stands at.next (λ setting. ap (λ n. Limit (n + 1)) counted) (λ done. absurd (not_done done))))
@@ -448,22 +446,22 @@ carried_on workers before now reader number next.Limit course after end at numbe
     not_done is = cc
 
 -- what waits once it was carried out is taken
-pub did_next_waits : (found : Next) (number : ℕ) (log : List Happening) (before now : Course) (end : Option End) → StandsBehind before log
+pub did_next_waits : (found : Found) (number : ℕ) (log : List Happening) (before now : Course) (end : Option End) → StandsBehind before log
     → DidNext found number log before now end → All (IsTakenBy now.craft.setting) now.burst.items
-did_next_waits (next.Line reading) number log before now end behind did =
+did_next_waits (line_read reading) number log before now end behind did =
     waits_taken (is_burst_line (Some reading)) (step_of (flying before.craft.setting) log number reading) number log before now end did
-did_next_waits next.End number log before now end behind did = subst (λ c. All (IsTakenBy c.craft.setting) c.burst.items) (sym did.1) behind.waiting
-did_next_waits next.Limit number log before now end behind did = subst (λ c. All (IsTakenBy c.craft.setting) c.burst.items) (sym did.1) behind.waiting
+did_next_waits end_met number log before now end behind did = subst (λ c. All (IsTakenBy c.craft.setting) c.burst.items) (sym did.1) behind.waiting
+did_next_waits limit_met number log before now end behind did = subst (λ c. All (IsTakenBy c.craft.setting) c.burst.items) (sym did.1) behind.waiting
 
 -- where nothing is due before it, what stands next is carried out behind the lines so far
-pub at_next : (workers : ℕ) (before now left : Option (List ℕ)) (reader behind : LinesRead) (found : Next) (course : Course)
+pub at_next : (workers : ℕ) (before now left : Option (List ℕ)) (reader behind : LinesRead) (found : Found) (course : Course)
     (way : IsUnderWay workers before now reader course) → IsNext before left behind way.readings found → behind.number ≡ reader.number + passed found
     → IsAtNext workers before left behind course found
 at_next workers before now left reader behind found course way is number =
     record { readings = way.readings; stands = way.stands; few = way.few; next = is; counted = number ∙ ap (λ n. n + passed found) way.read.counted }
 
 -- the workers entered what waited before it
-pub at_next_entered : (workers : ℕ) (before now : Option (List ℕ)) (reader : LinesRead) (found : Next) (course entered : Course)
+pub at_next_entered : (workers : ℕ) (before now : Option (List ℕ)) (reader : LinesRead) (found : Found) (course entered : Course)
     → IsAtNext workers before now reader course found → HasEntered workers course entered → IsAtNext workers before now reader entered found
 at_next_entered workers before now reader found course entered at has =
     record {
@@ -532,7 +530,7 @@ waits [] = 0
 waits (first ∷ burst) = 1
 
 -- How many turns there are at most: each carries out a line, or enters what waits.
-abbrev pub turns_left : LinesRead → Next → Course → ℕ
+abbrev pub turns_left : LinesRead → Found → Course → ℕ
 turns_left reader found course = 2 * (MAX_SCRIPT_LINES + 1 - (reader.number - passed found)) + waits course.burst.items
 
 waits_some : (burst : List Entry) → 0 < length burst → waits burst ≡ 1
@@ -551,7 +549,7 @@ waits_none [] none = refl
 waits_none (first ∷ burst) none = absurd (cc)
 
 -- entering what waits is one turn
-pub entering_is_a_turn : (reader : LinesRead) (found : Next) (course entered : Course) → 0 < length course.burst.items → entered.burst.items ≡ []
+pub entering_is_a_turn : (reader : LinesRead) (found : Found) (course entered : Course) → 0 < length course.burst.items → entered.burst.items ≡ []
     → turns_left reader found entered < turns_left reader found course
 entering_is_a_turn reader found course entered some none =
     let one = waits_some course.burst.items some in
@@ -559,11 +557,11 @@ entering_is_a_turn reader found course entered some none =
     omega (arith, one, zero)
 
 -- carrying out a line is one turn
-pub carrying_is_a_turn : (before after : LinesRead) (found behind : Next) (course now : Course) (number : ℕ) (log : List Happening)
+pub carrying_is_a_turn : (before after : LinesRead) (found behind : Found) (course now : Course) (number : ℕ) (log : List Happening)
     → before.number ≤ MAX_SCRIPT_LINES → passed found ≤ before.number → DidNext found number log course now None → after.number ≡ before.number + passed behind
     → turns_left after behind now < turns_left before found course
-carrying_is_a_turn before after (next.Line reading) behind course now number log few some did counted =
+carrying_is_a_turn before after (line_read reading) behind course now number log few some did counted =
     let one = waits_one now.burst.items in
     omega (arith, few, some, counted, one)
-carrying_is_a_turn before after next.End behind course now number log few some did counted = absurd (let both : None ≡ Some Done = did.0 in cc)
-carrying_is_a_turn before after next.Limit behind course now number log few some did counted = absurd (let both : None ≡ Some (Limit (number + 1)) = did.0 in cc)
+carrying_is_a_turn before after end_met behind course now number log few some did counted = absurd (let both : None ≡ Some Done = did.0 in cc)
+carrying_is_a_turn before after limit_met behind course now number log few some did counted = absurd (let both : None ≡ Some (Limit (number + 1)) = did.0 in cc)

@@ -4,12 +4,11 @@ use Rattle.std.specs.declared.option.Option.{Option}
 use Rattle.std.specs.Io.KnownBytes.{Consumes, IsAtEnd}
 use Rattle.adsc_io.specs.Inputs.{lines_before_limit}
 use Rattle.adsc_io.specs.Readers.{LinesRead, StandsIn}
-use Rattle.run_rules.specs.Readings.{ReadsLine}
 use Rattle.run_rules.specs.Runs.{IsScript, ReadsLines}
 use Rattle.run_rules.specs.declared.reading.Reading.{Reading}
 use Rattle.adsc_run.specs.Readable.{IsReadable}
 use Rattle.adsc_run.specs.declared.feed.Next.{Next}
-use Rattle.adsc_run.specs.declared.feed.Next.TheVariants as next
+use Rattle.adsc_run.specs.declared.feed.Next.TheVariants.{Line, End, Limit}
 
 -- Of a source that told these bytes before and tells those now, some bytes were read, and their first lines are read so. In each input
 -- that begins with the bytes that were read, the reader stands behind those lines.
@@ -28,22 +27,29 @@ abbrev pub IsWhole : Option (List ℕ) → List Reading → Bool → Type 0
 IsWhole before readings over = IfSome before (λ bytes. IsScript bytes (record { readings = readings; over = over }))
 
 -- What stands next: a line that is read so; or the script has no more lines, at its end, or at the limit.
-abbrev pub IsNext : Option (List ℕ) → Option (List ℕ) → LinesRead → List Reading → Next → Type 0
-IsNext before now reader readings (next.Line reading) = HasRead before now reader (readings ++ reading ∷ [])
-IsNext before now reader readings next.End = IsWhole before readings false × IsAtEnd now
-IsNext before now reader readings next.Limit = IsWhole before readings true
+pub data Found : Type 0 where
+  line_read : Reading → Found
+  end_met : Found
+  limit_met : Found
 
--- The line of this number is read so.
-abbrev pub IsReadAs : ℕ → List ℕ → Next → Type 0
-IsReadAs number line (next.Line reading) = ReadsLine number line reading
-IsReadAs number line found = ⊥
+-- What stands next, where the line that was read last is read so.
+abbrev pub found_in : Reading → Next → Found
+found_in reading Line = line_read reading
+found_in reading End = end_met
+found_in reading Limit = limit_met
+
+-- It stands next in the source.
+abbrev pub IsNext : Option (List ℕ) → Option (List ℕ) → LinesRead → List Reading → Found → Type 0
+IsNext before now reader readings (line_read reading) = HasRead before now reader (readings ++ reading ∷ [])
+IsNext before now reader readings end_met = IsWhole before readings false × IsAtEnd now
+IsNext before now reader readings limit_met = IsWhole before readings true
 
 -- A line that stands next was read.
-abbrev pub IsReadableNext : Next → Type 0
-IsReadableNext (next.Line reading) = IsReadable reading
+abbrev pub IsReadableNext : Found → Type 0
+IsReadableNext (line_read reading) = IsReadable reading
 IsReadableNext found = Unit {0}
 
 -- How many lines it passes.
-abbrev pub passed : Next → ℕ
-passed (next.Line reading) = 1
+abbrev pub passed : Found → ℕ
+passed (line_read reading) = 1
 passed found = 0

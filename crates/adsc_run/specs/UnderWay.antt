@@ -16,11 +16,9 @@ use Rattle.run_rules.specs.declared.end.End.{End}
 use Rattle.run_rules.specs.declared.end.End.TheVariants.{Done, Limit}
 use Rattle.run_rules.specs.declared.reading.Reading.{Reading}
 use Rattle.adsc_run.specs.Courses.{Did, HasEntered, StandsBehind}
-use Rattle.adsc_run.specs.Feeds.{HasRead, IsNext, passed}
+use Rattle.adsc_run.specs.Feeds.{Found, HasRead, IsNext, end_met, limit_met, line_read, passed}
 use Rattle.adsc_run.specs.Stations.{ends_bad}
 use Rattle.adsc_run.specs.declared.course.Course.{Course}
-use Rattle.adsc_run.specs.declared.feed.Next.{Next}
-use Rattle.adsc_run.specs.declared.feed.Next.TheVariants as next
 use Rattle.adsc_run.specs.declared.head.Stop.{Stop}
 use Rattle.adsc_run.specs.declared.head.Stop.TheVariants.{Ended, Fault}
 
@@ -55,11 +53,11 @@ StopsSaying number stage said (Ended end) = (end ≡ ends_bad number code.Head 0
 StopsSaying number stage said (Fault fault) = ⊥
 
 -- A line of this number is bad at this stage, or no line stands next, and so the run ends.
-abbrev pub StopsBy : ℕ → Stage → Next → Stop → Type 0
-StopsBy number stage (next.Line reading) (Ended end) =
+abbrev pub StopsBy : ℕ → Stage → Found → Stop → Type 0
+StopsBy number stage (line_read reading) (Ended end) =
     (found : Code) × (value : ℕ) × (step_of stage [] number reading ≡ stops found value) × (end ≡ ends_bad number found value)
-StopsBy number stage next.End (Ended end) = end ≡ end_behind false stage number
-StopsBy number stage next.Limit (Ended end) = end ≡ end_behind true stage number
+StopsBy number stage end_met (Ended end) = end ≡ end_behind false stage number
+StopsBy number stage limit_met (Ended end) = end ≡ end_behind true stage number
 StopsBy number stage found (Fault fault) = ⊥
 
 -- ---- behind the head
@@ -110,7 +108,7 @@ pub record IsEnding (workers : ℕ) (before now : Option (List ℕ)) (course : C
   pub done : end ≡ Done → IsAtEnd now
 
 -- The lines of the source that were read are carried out, but for what stands next.
-pub record IsAtNext (workers : ℕ) (before now : Option (List ℕ)) (reader : LinesRead) (course : Course) (found : Next) : Type 0 where
+pub record IsAtNext (workers : ℕ) (before now : Option (List ℕ)) (reader : LinesRead) (course : Course) (found : Found) : Type 0 where
   pub readings : List Reading
   pub stands : Stands workers readings course
   pub few : length course.craft.setting.addresses ≤ 64
@@ -118,8 +116,8 @@ pub record IsAtNext (workers : ℕ) (before now : Option (List ℕ)) (reader : L
   pub counted : reader.number ≡ length readings + passed found
 
 -- What stands next can be carried out: entries wait before nothing but a line of their burst.
-abbrev pub IsReadyFor : Course → Next → Type 0
-IsReadyFor course (next.Line reading) = (is_burst_line (Some reading) ≡ true) ⊎ (course.burst.items ≡ [])
+abbrev pub IsReadyFor : Course → Found → Type 0
+IsReadyFor course (line_read reading) = (is_burst_line (Some reading) ≡ true) ⊎ (course.burst.items ≡ [])
 IsReadyFor course found = course.burst.items ≡ []
 
 -- One line more was carried out, or the run ends.
@@ -128,8 +126,8 @@ IsCarriedOn workers before now reader course None = IsUnderWay workers before no
 IsCarriedOn workers before now reader course (Some end) = IsEnding workers before now course end
 
 -- What stood next did its step: a line that of its letter; the end and the limit end the run.
-abbrev pub DidNext : Next → ℕ → List Happening → Course → Course → Option End → Type 0
-DidNext (next.Line reading) number log before now ended =
+abbrev pub DidNext : Found → ℕ → List Happening → Course → Course → Option End → Type 0
+DidNext (line_read reading) number log before now ended =
     Did (is_burst_line (Some reading)) (step_of (flying before.craft.setting) log number reading) number log before now ended
-DidNext next.End number log before now ended = (ended ≡ Some Done) × (now ≡ before)
-DidNext next.Limit number log before now ended = (ended ≡ Some (Limit (number + 1))) × (now ≡ before)
+DidNext end_met number log before now ended = (ended ≡ Some Done) × (now ≡ before)
+DidNext limit_met number log before now ended = (ended ≡ Some (Limit (number + 1))) × (now ≡ before)

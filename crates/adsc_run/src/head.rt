@@ -8,8 +8,7 @@ ghost use Rattle.run_rules.specs.Stages.{Stage, begun, named, linked, flying, se
 ghost use Rattle.run_rules.specs.declared.end.End.TheVariants.{Done};
 ghost use Rattle.run_rules.specs.declared.reading.Reading.{Reading as ReadingValue};
 ghost use Rattle.run_rules.specs.declared.reading.Reading.TheVariants.{Says};
-ghost use Rattle.adsc_run.specs.Feeds.{HasRead};
-ghost use Rattle.adsc_run.specs.declared.feed.Next.TheVariants as next_values;
+ghost use Rattle.adsc_run.specs.Feeds.{HasRead, found_in, line_read};
 ghost use Rattle.adsc_run.specs.Readable.{AreLinks, SaysRightly};
 ghost use Rattle.adsc_run.specs.UnderWay.{IsInHead, IsInStage, StopsBy, StopsInHead, StopsSaying};
 
@@ -171,20 +170,20 @@ fn read_said<S: Source>(number: u32, feed: &mut Feed, source: &mut S) -> Result<
     ensures kept { result ≢ Err (Stop.Fault RunFault.Read) → S.faults source.new ≡ S.faults source.old }
 {
     match feed.next(source) {
-        Ok(next) => said_in(number, next),
+        Ok(next) => said_in(number, next, feed.take_reading()),
         Err(fault) => Err(Stop::Fault(fault)),
     }
 }
 
-/// What the line of this number in the head says, if it stands next and says something.
-fn said_in(number: u32, next: Next) -> Result<ScriptLine, Stop>
+/// What the line of this number in the head says, which is read so, if it stands next and says something.
+fn said_in(number: u32, next: Next, reading: Reading) -> Result<ScriptLine, Stop>
     ensures unread { result ≢ Err (Stop.Fault RunFault.Read) }
     ensures undone { IfErr result (λ stop. stop ≢ Stop.Ended Done) }
-    ensures said { IfOk result (λ said. next ≡ next_values.Line (Says said)) }
-    ensures stopped { IfErr result (λ stop. (stage : Stage) → IsInHead stage → StopsBy number stage next stop) }
+    ensures said { IfOk result (λ said. found_in reading next ≡ line_read (Says said)) }
+    ensures stopped { IfErr result (λ stop. (stage : Stage) → IsInHead stage → StopsBy number stage (found_in reading next) stop) }
 {
     match next {
-        Next::Line(reading) => said_by(number, reading),
+        Next::Line => said_by(number, reading),
         Next::End => Err(Stop::Ended(bad_line(number, Code::Head, 0))),
         Next::Limit => Err(Stop::Ended(End::Limit { line: number })),
     }
@@ -195,7 +194,7 @@ fn said_by(number: u32, reading: Reading) -> Result<ScriptLine, Stop>
     ensures unread { result ≢ Err (Stop.Fault RunFault.Read) }
     ensures undone { IfErr result (λ stop. stop ≢ Stop.Ended Done) }
     ensures said { IfOk result (λ said. reading ≡ Says said) }
-    ensures stopped { IfErr result (λ stop. (stage : Stage) → IsInHead stage → StopsBy number stage (next_values.Line reading) stop) }
+    ensures stopped { IfErr result (λ stop. (stage : Stage) → IsInHead stage → StopsBy number stage (line_read reading) stop) }
 {
     match reading {
         Reading::Says(said) => Ok(said),

@@ -15,6 +15,7 @@ use crate::links::link_to;
 use acars_envelope::Address;
 use adsc_io::NoMemory;
 use aircraft_core::Entry;
+use flight_samples::Sample;
 use net_script::{Code, ScriptLine};
 use run_rules::{End, Reading};
 
@@ -43,12 +44,9 @@ impl Course {
         ensures { (log : List Happening) → StandsBehind self.old log → IfOk result (Did (is_burst_line (Some (Says value.now))) (flight_step self.old.craft.setting log line value.now) line log self.old self.new) }
     {
         match value {
-            ScriptLine::S(sample) => self.enter(Entry::Sample {
-                line,
-                sample: *sample,
-            }),
-            ScriptLine::T(t) => self.enter(Entry::Tick { line, t: *t }),
-            ScriptLine::E(on) => self.enter(Entry::Crew { line, on: *on }),
+            ScriptLine::S(sample) => self.enter_sample(line, sample),
+            ScriptLine::T(t) => self.enter_tick(line, *t),
+            ScriptLine::E(on) => self.enter_switch(line, *on),
             ScriptLine::L(address) => self.log_on(line, *address),
             ScriptLine::C(address, request) => self.ask(line, *address, request),
             ScriptLine::K(address, cancel) => self.cancel(line, *address, *cancel),
@@ -60,7 +58,38 @@ impl Course {
         }
     }
 
+    // Each of these stands apart since it holds an entry, and a function pays for the size of what it holds each time that it is called.
+
+    /// Enters a sample.
+    #[inline(never)]
+    fn enter_sample(&mut self, line: u32, sample: &Sample) -> Result<Option<End>, NoMemory>
+        ensures { (log : List Happening) → StandsBehind self.old log → IfOk result (Did false (flight_step self.old.craft.setting log line (line_values.S sample.now)) line log self.old self.new) }
+    {
+        self.enter(Entry::Sample {
+            line,
+            sample: *sample,
+        })
+    }
+
+    /// Enters a tick of the clock.
+    #[inline(never)]
+    fn enter_tick(&mut self, line: u32, t: u32) -> Result<Option<End>, NoMemory>
+        requires { t < 1000000000 }
+        ensures { (log : List Happening) → StandsBehind self.old log → IfOk result (Did false (flight_step self.old.craft.setting log line (line_values.T t)) line log self.old self.new) }
+    {
+        self.enter(Entry::Tick { line, t })
+    }
+
+    /// Enters that the crew switches the emergency mode on or off.
+    #[inline(never)]
+    fn enter_switch(&mut self, line: u32, on: bool) -> Result<Option<End>, NoMemory>
+        ensures { (log : List Happening) → StandsBehind self.old log → IfOk result (Did false (flight_step self.old.craft.setting log line (line_values.E on)) line log self.old self.new) }
+    {
+        self.enter(Entry::Crew { line, on })
+    }
+
     /// Logs on to the facility at this address, or says that it isn't listed.
+    #[inline(never)]
     fn log_on(&mut self, line: u32, address: Address) -> Result<Option<End>, NoMemory>
         requires few { length self.old.craft.setting.addresses ≤ 64 }
         ensures { (log : List Happening) → StandsBehind self.old log → IfOk result (Did false (flight_step self.old.craft.setting log line (line_values.L address)) line log self.old self.new) }

@@ -1,15 +1,16 @@
 //! What a line of a script says.
 
-ghost use Rattle.std.specs.Prelude.{◌≡◌, ◌≢◌, ℕ, ◌≤◌, length, drop, IfOk, Err};
+ghost use Rattle.std.specs.Prelude.{◌≡◌, ℕ, ◌≤◌, length, drop, OnOk};
 ghost use Rattle.adsc_io.specs.Limits.{max_line_bytes};
 ghost use Rattle.adsc_io.specs.Lines.{IsUnbroken};
 ghost use Rattle.run_rules.specs.Places.{IsInPlace};
-ghost use Rattle.adsc_run.specs.Feeds.{IsReadAs};
+ghost use Rattle.run_rules.specs.Readings.{ReadsLine};
+ghost use Rattle.run_rules.specs.declared.reading.Reading.TheVariants as readings;
+ghost use Rattle.ground_texts.specs.Readings.{ReadsText};
+ghost use Rattle.ground_texts.specs.declared.ground_text.GroundText.{GroundText as GroundTextValue};
 
-use crate::fault::RunFault;
-use crate::feed::Next;
 use crate::placed::misplaced;
-use adsc_io::MAX_LINE_BYTES;
+use adsc_io::{MAX_LINE_BYTES, NoMemory};
 use flight_samples::SampleReader;
 use ground_texts::read_ground_text;
 use net_script::{Code, LineRefusal, ScriptLine, read_script_line};
@@ -31,44 +32,73 @@ use std::alloc::Global;
 /// refused leaves its line right. The script language is this project's profile; texts follow ARINC 622, payloads RTCA DO-258A /
 /// EUROCAE ED-100A.
 ///
-/// `samples` reads the columns of sample lines; one serves all lines of a run.
+/// `samples` reads the columns of sample lines; one serves all lines of a run. The reading is written where the caller keeps it, since
+/// it is large; for want of memory it says nothing.
 pub(crate) fn read_line(
     samples: &mut SampleReader,
     alloc: Global,
     number: u32,
     line: &[u8],
-) -> Result<Next, RunFault>
+    reading: &mut Reading,
+) -> Result<(), NoMemory>
     requires unbroken { IsUnbroken line.now }
-    ensures reads { IfOk result (IsReadAs number line.now) }
-    ensures unread { result ≢ Err RunFault.Read }
+    ensures reads { OnOk result (ReadsLine number line.now reading.new) }
 {
     if line.len() > MAX_LINE_BYTES {
-        return Ok(Next::Line(Reading::Bad {
-            code: Code::Long,
-            value: MAX_LINE_BYTES as u32,
-        }));
+        say_bad(reading, Code::Long, MAX_LINE_BYTES as u32);
+        return Ok(());
     }
     if let Some(code) = misplaced(number, line) {
-        return Ok(Next::Line(Reading::Bad { code, value: 0 }));
+        say_bad(reading, code, 0);
+        return Ok(());
     }
-    read_placed(samples, alloc, line)
+    read_placed(samples, alloc, line, reading)
 }
 
-/// What a line says that isn't too long and stands where it may, or the first fault of its form.
-fn read_placed(samples: &mut SampleReader, alloc: Global, line: &[u8]) -> Result<Next, RunFault>
+/// Reads a line that isn't too long and stands where it may: what it says, or the first fault of its form.
+fn read_placed(
+    samples: &mut SampleReader,
+    alloc: Global,
+    line: &[u8],
+    reading: &mut Reading,
+) -> Result<(), NoMemory>
     requires size { length line.now ≤ max_line_bytes }
     requires unbroken { IsUnbroken line.now }
-    ensures reads { (number : ℕ) → IsInPlace number line.now → IfOk result (IsReadAs number line.now) }
-    ensures unread { result ≢ Err RunFault.Read }
+    ensures reads { (number : ℕ) → IsInPlace number line.now → OnOk result (ReadsLine number line.now reading.new) }
 {
     match read_script_line(samples, alloc, line) {
-        Ok(ScriptLine::U { from }) => Ok(Next::Line(Reading::Brings(read_ground_text(bytes_from(
-            line, from,
-        ))))),
-        Ok(value) => Ok(Next::Line(Reading::Says(value))),
-        Err(LineRefusal::Bad { code, value }) => Ok(Next::Line(Reading::Bad { code, value })),
-        Err(LineRefusal::NoMemory) => Err(RunFault::NoMemory),
+        Ok(ScriptLine::U { from }) => say_text(reading, bytes_from(line, from)),
+        Ok(value) => say_value(reading, value),
+        Err(LineRefusal::Bad { code, value }) => say_bad(reading, code, value),
+        Err(LineRefusal::NoMemory) => return Err(NoMemory),
     }
+    Ok(())
+}
+
+// Each of these stands apart since it holds a reading, and a function pays for the size of what it holds each time that it is called.
+
+/// Says that the line is bad.
+#[inline(never)]
+pub(crate) fn say_bad(reading: &mut Reading, code: Code, value: u32)
+    ensures { reading.new ≡ readings.Bad code value }
+{
+    *reading = Reading::Bad { code, value };
+}
+
+/// Says what the line says, which brings no text.
+#[inline(never)]
+fn say_value(reading: &mut Reading, value: ScriptLine)
+    ensures { reading.new ≡ readings.Says value }
+{
+    *reading = Reading::Says(value);
+}
+
+/// Says what the text says that the line brings.
+#[inline(never)]
+fn say_text(reading: &mut Reading, text: &[u8])
+    ensures { (said : GroundTextValue) × (reading.new ≡ readings.Brings said) × ReadsText text.now said }
+{
+    *reading = Reading::Brings(read_ground_text(text));
 }
 
 /// The bytes of the line from this place on.

@@ -8,7 +8,7 @@ ghost use Rattle.run_rules.specs.Happenings.{Happening};
 ghost use Rattle.run_rules.specs.declared.end.End.TheVariants.{Done};
 ghost use Rattle.aircraft_core.specs.Entries.{IsTakenBy};
 ghost use Rattle.adsc_run.specs.Courses.{KnowsEnds, StandsBehind};
-ghost use Rattle.adsc_run.specs.Feeds.{IsReadableNext};
+ghost use Rattle.adsc_run.specs.Feeds.{IsReadableNext, found_in};
 ghost use Rattle.adsc_run.specs.Outcomes.{IsOutcome};
 ghost use Rattle.adsc_run.specs.UnderWay.{DidNext, EndsInHead, IsEnding, IsReadyFor, IsUnderWay};
 
@@ -20,7 +20,7 @@ use crate::gate::Gate;
 use crate::head::{Stop, read_head};
 use crate::outcome::Outcome;
 use adsc_io::{NoMemory, Source};
-use run_rules::End;
+use run_rules::{End, Reading};
 use std::alloc::Global;
 use std::sync::Wait;
 use std::thread::Threads;
@@ -96,14 +96,14 @@ impl Course {
         let mut course = self;
         let mut next = feed.next(source)?;
         loop {
-            if course.must_enter(&next) {
+            if course.must_enter(next, &feed.reading) {
                 let Ok(entered) = course.enter_burst(rt, alloc, workers, gate) else {
                     return Err(RunFault::NoMemory);
                 };
                 course = entered;
                 continue;
             }
-            match course.carry_out(feed.number(), &next) {
+            match course.carry_out(feed.number(), next, &feed.reading) {
                 Ok(None) => next = feed.next(source)?,
                 Ok(Some(end)) => return course.finish(rt, alloc, workers, end, gate),
                 Err(NoMemory) => return Err(RunFault::NoMemory),
@@ -111,29 +111,34 @@ impl Course {
         }
     }
 
-    /// Whether the entries that wait are entered before what stands next: before anything but a line of their burst, and where they
+    /// Whether the entries that wait are entered before what stands next, where a line is read so: before anything but a line of their burst, and where they
     /// are as many as may wait.
-    fn must_enter(&self, next: &Next) -> bool
+    fn must_enter(&self, next: Next, reading: &Reading) -> bool
         ensures waits { result ≡ true → 0 < length self.now.burst.items }
-        ensures ready { result ≡ false → IsReadyFor self.now next.now }
+        ensures ready { result ≡ false → IsReadyFor self.now (found_in reading.now next) }
     {
         match next {
-            Next::Line(reading) if is_burst(reading) => self.burst.len() >= MOST_WAITING,
+            Next::Line if is_burst(reading) => self.burst.len() >= MOST_WAITING,
             _ => !self.burst.is_empty(),
         }
     }
 
     /// Carries out what stands next, behind the line of this number or as that line; answers how the run ends with it, if it does.
-    fn carry_out(&mut self, number: u32, next: &Next) -> Result<Option<End>, NoMemory>
+    fn carry_out(
+        &mut self,
+        number: u32,
+        next: Next,
+        reading: &Reading,
+    ) -> Result<Option<End>, NoMemory>
         requires few { length self.old.craft.setting.addresses ≤ 64 }
         requires count { length self.old.stations.items ≡ length self.old.craft.setting.addresses }
         requires ends { KnowsEnds self.old }
-        requires readable { IsReadableNext next.now }
+        requires readable { IsReadableNext (found_in reading.now next) }
         requires number { number ≤ MAX_SCRIPT_LINES }
-        ensures { (log : List Happening) → StandsBehind self.old log → IfOk result (DidNext next.now number log self.old self.new) }
+        ensures { (log : List Happening) → StandsBehind self.old log → IfOk result (DidNext (found_in reading.now next) number log self.old self.new) }
     {
         match next {
-            Next::Line(reading) => self.take(number, reading),
+            Next::Line => self.take(number, reading),
             Next::End => Ok(Some(End::Done)),
             Next::Limit => Ok(Some(End::Limit { line: number + 1 })),
         }

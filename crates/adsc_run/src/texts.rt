@@ -149,11 +149,9 @@ impl Course {
         requires read { IsReadUplink uplink.now }
         ensures { (log : List Happening) → StandsBehind self.old log → IfOk result (Did true (takes log link (payload_happenings line (entries.Uplink line link uplink.now.octets) uplink.now.asked)) line log self.old self.new) }
     {
-        let entry = Entry::Uplink {
-            line,
-            link,
-            bytes: octets_of(uplink),
-        };
+        let mut bytes = ArrayVec::new();
+        append_octets(&mut bytes, uplink);
+        let entry = Entry::Uplink { line, link, bytes };
         let end = self.take_on(line, link, entry)?;
         match &uplink.asked {
             Ok(_) => Ok(end),
@@ -180,16 +178,15 @@ impl Course {
     }
 }
 
-/// The octets of an uplink's payload, for the journal.
-fn octets_of(uplink: &AdsUplink) -> ArrayVec<u8, 255>
-    requires { IsReadUplink uplink.now }
-    ensures { result ≡ uplink.now.octets }
+/// Puts the octets of an uplink's payload, for the journal, into a list without any.
+fn append_octets(octets: &mut ArrayVec<u8, 255>, uplink: &AdsUplink)
+    requires empty { octets.old.items ≡ [] }
+    requires read { IsReadUplink uplink.now }
+    ensures { octets.new ≡ uplink.now.octets }
 {
-    let mut octets = ArrayVec::new();
     octets
         .try_extend_from_slice(uplink.octets.as_slice())
         .unwrap();
-    octets
 }
 
 /// The place of the registration in the text of an answer: behind the flight and a comma.

@@ -1,13 +1,13 @@
 use Rattle.adsc_run.proofs.course.Course.take_value.Goals as goal
 
 pub returns-in-S : goal.returns-in-S
-returns-in-S c log stood = rw (c.in-S.is) (c.enter.ensures log c.args.line stood)
+returns-in-S c log stood = rw (c.in-S.is) (c.enter_sample.ensures log stood)
 
 pub returns-in-T : goal.returns-in-T
-returns-in-T c log stood = rw (c.in-T.is) (c.enter-in-T.ensures log c.args.line stood)
+returns-in-T c log stood = rw (c.in-T.is) (c.enter_tick.ensures log stood)
 
 pub returns-in-E : goal.returns-in-E
-returns-in-E c log stood = rw (c.in-E.is) (c.enter-in-E.ensures log c.args.line stood)
+returns-in-E c log stood = rw (c.in-E.is) (c.enter_switch.ensures log stood)
 
 pub returns-in-L : goal.returns-in-L
 returns-in-L c log stood = rw (c.in-L.is) (c.log_on.ensures log stood)

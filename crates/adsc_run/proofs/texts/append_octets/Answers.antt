@@ -1,6 +1,6 @@
 use Rattle.std.proofs.Common.{◌≡◌, ℕ, List, ap, rules}
 use Rattle.arrayvec.specs.ArrayVec.{ArrayVec}
-use Rattle.adsc_run.proofs.texts.octets_of.Goals as goal
+use Rattle.adsc_run.proofs.texts.append_octets.Goals as goal
 
 pub returns : goal.returns
 returns c = same _ _ (search rules)
