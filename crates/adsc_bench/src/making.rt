@@ -71,7 +71,7 @@ fn outcome_of<Rt: Threads + Wait + Sync>(
     number: u32,
     lines: u32,
 ) -> Result<Outcome, NoMemory>
-    requires { lines ≤ 200000 }
+    requires { (3 ≤ lines) × (lines ≤ 200000) }
     ensures { IfOk result (λ outcome. IsOutcome (made_script number lines) 5 outcome) }
 {
     let script = generate_script(alloc, number, lines)?;

@@ -124,7 +124,7 @@ text_taken setting log number place payload uplink made free inside is =
 -- ---- lines
 
 -- A line that is read as what was drawn is taken, and the aircraft flies on.
-pub line_taken : (setting : Setting) (log : List Happening) (number : ℕ) (drawn : MadeLine) (reading : Reading) → IsMadeSetting setting → NoCentre log → IsWithin drawn
+line_taken : (setting : Setting) (log : List Happening) (number : ℕ) (drawn : MadeLine) (reading : Reading) → IsMadeSetting setting → NoCentre log → IsWithin drawn
     → IsReadAs drawn reading → IsTaken log (is_malformed drawn) (step_of (flying setting) log number reading) × (stage_after (flying setting) reading ≡ flying setting)
 line_taken setting log number (Sample drawn) (Says (line.S sample)) made free within is = (entered_taken log _ (entry.Sample number sample) refl, refl)
 line_taken setting log number (Time drawn) (Says (line.T moment)) made free within is = (entered_taken log _ (entry.Tick number moment) refl, refl)
@@ -141,7 +141,7 @@ record HasTaken (setting : Setting) (log : List Happening) (lines : List MadeLin
   refused : length (refused_lines run.log) ≡ length (refused_lines log) + count_by is_malformed lines
 
 -- Behind a line that is taken the run goes on with the others.
-pub runs_on : (order : List ℕ) (setting : Setting) (log : List Happening) (number : ℕ) (malformed : Bool) (reading : Reading) (readings : List Reading) (run : Run)
+runs_on : (order : List ℕ) (setting : Setting) (log : List Happening) (number : ℕ) (malformed : Bool) (reading : Reading) (readings : List Reading) (run : Run)
     → (taken : IsTaken log malformed (step_of (flying setting) log number reading)) → stage_after (flying setting) reading ≡ flying setting
     → LinesRun false order (flying setting) log number (reading ∷ readings) run
     → LinesRun false order (flying setting) (taken.happenings ++ log) (number + 1) readings run
@@ -187,7 +187,7 @@ lines_taken order setting log number (drawn ∷ lines) (reading ∷ readings) ru
 -- ---- scripts
 
 -- Behind its head a script runs on from line 4.
-pub script_flight : (number lines : ℕ) (script : Script) (order : List ℕ) (run : Run) (read : IsReadAsDrawn number lines script) → ScriptRun script order run
+script_flight : (number lines : ℕ) (script : Script) (order : List ℕ) (run : Run) (read : IsReadAsDrawn number lines script) → ScriptRun script order run
     → LinesRun false order (flying (setting_with read.head.who made_addresses None read.head.sample)) [] 4 read.behind run
 script_flight number lines script order run read runs =
     subst (λ over. LinesRun over order (flying (setting_with read.head.who made_addresses None read.head.sample)) [] 4 read.behind run) read.within

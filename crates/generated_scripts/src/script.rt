@@ -21,13 +21,13 @@ S,0,0,0,0,0,0,0,0,0,0,0,0,0,0,0,0,0,0,0,0,0,0,0,0,0,0
 /// is, the addresses of its five links, and a first sample; each line behind them is drawn. A newline stands behind each line. Memory is
 /// the only thing that can be wanting.
 pub fn generate_script(alloc: Global, number: u32, lines: u32) -> Result<Vec<u8>, NoMemory>
-    requires { lines ≤ 200000 }
+    requires { (3 ≤ lines) × (lines ≤ 200000) }
     ensures { IfOk result (λ script. script.items ≡ made_script number lines) }
 {
     let mut script = Vec::new(alloc);
     script.extend_from_slice(HEAD)?;
     let mut generator = Generator::new(number);
-    append_lines(&mut script, &mut generator, lines.saturating_sub(3))?;
+    append_lines(&mut script, &mut generator, lines - 3)?;
     Ok(script)
 }
 

@@ -138,6 +138,19 @@ log_fits script order run setting runs flies =
         let same : other ≡ setting = cc in
         subst (λ s. LogFits s script.readings run.log under.count) same fits
 
+-- Where no aircraft flies nothing happened.
+pub nothing_happened : (script : Script) (order : List ℕ) (run : Run) → ScriptRun script order run → run.setting ≡ None → run.log ≡ []
+nothing_happened script order run runs none = at under.last under.setting under.fits
+  where
+    under : RunsUnder script.readings script.over order begun [] 1 script.readings run
+    under = runs_under script.readings script.over order order run (finds_itself script.readings order run) [] script.readings refl begun [] 1 refl refl runs
+
+    at : (last : Stage) → run.setting ≡ setting_at last → StageFits script.readings last run.log under.count → run.log ≡ []
+    at begun its fits = fits
+    at (named who) its fits = fits
+    at (linked who addresses kept) its fits = fits
+    at (flying setting) its fits = absurd (let e : None ≡ Some setting = sym none ∙ its in cc)
+
 -- What was heard in a run stands apart from the entries.
 pub heard_apart : (script : Script) (order : List ℕ) (run : Run) (setting : Setting) → ScriptRun script order run → run.setting ≡ Some setting
     → (later : List Happening) (number link place : ℕ) (hearing : Hearing) (log : List Happening) → run.log ≡ later ++ Heard number link place hearing ∷ log

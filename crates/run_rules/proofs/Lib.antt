@@ -25,6 +25,7 @@ pub mod LogEntries
 pub mod MadeDownlinks
 pub mod Members
 pub mod Numbers
+pub mod OneAircraft
 pub mod OneMaker
 pub mod OneReading
 pub mod OneRun

@@ -70,7 +70,7 @@ lines_of_links_one : (setting : Option Setting) (journal : List Entry) (one othe
 lines_of_links_one None journal one other first second = first ∙ sym second
 lines_of_links_one (Some setting) journal one other first second = links_one setting journal 0 setting.addresses one other first second
 
-end_text_one : (order : List ℕ) (run : Run) (end : End) (one other : List ℕ) → IsEndText order run end one → IsEndText order run end other → one ≡ other
+pub end_text_one : (order : List ℕ) (run : Run) (end : End) (one other : List ℕ) → IsEndText order run end one → IsEndText order run end other → one ≡ other
 end_text_one order run Done one other first second =
     first.2
     ∙ ap (λ links. links ++ (flat_map refused_line (refused_lines run.log) ++ (lines_of_centres run.setting run.log ++ ended (codes "OK"))))

@@ -1,6 +1,5 @@
--- What each link gets, and so the whole run, is the same in each allowed order, where the aircraft has at most five links; and the order
--- of the lines is allowed.
-use Rattle.std.proofs.Common.{◌≡◌, ◌⊎◌, ◌+◌, ◌<◌, ◌≤◌, ◌%◌, ℕ, inl, inr, true, List, [], ◌∷◌, ◌++◌, filter, length, Some, None, refl, sym, ap, ◌∙◌, subst, arith, eqb-true}
+-- What each link gets, and so the whole run, is the same in each allowed order, where the aircraft has at most five links.
+use Rattle.std.proofs.Common.{◌≡◌, ◌↔◌, ◌⊎◌, ◌+◌, ◌<◌, ◌≤◌, ◌%◌, ℕ, inl, inr, true, List, [], ◌∷◌, ◌++◌, filter, length, Option, Some, None, refl, sym, ap, ◌∙◌, subst, arith, eqb-true}
 use Rattle.std.specs.Option.{ForSome}
 use Rattle.aircraft_core.specs.Downlinks.{AreDownlinks}
 use Rattle.aircraft_core.specs.Entries.{is_heard_by, line_of}
@@ -11,21 +10,24 @@ use Rattle.aircraft_core.proofs.LogonLaws.{same_logon}
 use Rattle.run_rules.specs.Among.{IsAmong}
 use Rattle.run_rules.specs.EarlierLines.{text_link}
 use Rattle.run_rules.specs.Happenings.{Happening, entries}
-use Rattle.run_rules.specs.Laws.{AgreesWithLineOrder}
-use Rattle.run_rules.specs.Output.{AreLinesOfLinks, AreLinkLines, IsEndText, downlink_lines, logon_line}
-use Rattle.run_rules.specs.Orders.{IsOrdered, IsRising, MayPass, is_burst_line, line_order, place_on, reading_at}
-use Rattle.run_rules.specs.Runs.{IsAllowedOrder, IsScript, Run, Script, ScriptRun, addresses_in, journal_at, setting_at}
-use Rattle.run_rules.specs.Stages.{Stage, begun, flying, linked, named}
+use Rattle.run_rules.specs.Laws.{DifferInJournalLine, OrdersAgree, RunsAgree}
+use Rattle.run_rules.specs.Output.{AreLinesOfLinks, AreLinkLines, IsEndText, IsRunText, downlink_lines, journal_line, logon_line}
+use Rattle.run_rules.specs.Orders.{IsOrdered, MayPass, is_burst_line, place_on, reading_at}
+use Rattle.run_rules.specs.Runs.{IsAllowedOrder, IsScript, Run, Script, ScriptRun, addresses_in, journal_at}
+use Rattle.run_rules.specs.Stages.{begun}
 use Rattle.run_rules.specs.declared.end.End.{End}
 use Rattle.run_rules.specs.declared.end.End.TheVariants.{Done, Bad, Limit}
 use Rattle.run_rules.specs.declared.reading.Reading.{Reading}
 use Rattle.run_rules.proofs.FewLinks.{downlinks_carry, kept_first}
-use Rattle.run_rules.proofs.Journals.{entries-append}
-use Rattle.run_rules.proofs.LogEntries.{EntryFits, LogFits, StageFits}
-use Rattle.run_rules.proofs.Members.{among_front, among_map, filter_among}
+use Rattle.run_rules.proofs.HeardLines.{log_fits, nothing_happened}
+use Rattle.run_rules.proofs.LogEntries.{EntryFits, LogFits}
+use Rattle.run_rules.proofs.Members.{filter_among}
+use Rattle.run_rules.proofs.OneAircraft.{one_aircraft}
+use Rattle.run_rules.proofs.OneRun.{end_text_one, one_run}
 use Rattle.run_rules.proofs.OtherOrders.{FindsSame, RunsUnder, runs_under}
-use Rattle.run_rules.proofs.Projection.{StandsRising, arranged, filter_journal, journal_from, journal_holds, rising_stands}
+use Rattle.run_rules.proofs.Projection.{StandsRising, arranged, filter_journal, journal_from, journal_holds, none_of_none}
 use Rattle.run_rules.proofs.Rising.{rising_filter}
+use Rattle.run_rules.proofs.RisingOrder.{all_lines, all_lines_journal, entry_at_end}
 use Rattle.run_rules.proofs.RunDeeds.{run_deeds}
 
 -- ---- what a link hears rises in each allowed order
@@ -91,125 +93,166 @@ gets_in_line setting readings workers order log number few kept fits ordered lis
     (λ entry among. journal_holds order (entries log) entry among (listed entry among))
     (heard_in_line setting readings workers link order log number fits ordered listed) texts are
 
--- ---- the order of the lines
-
--- An entry so far is one at the end.
-entry_at_end : (run : Run) (later log : List Happening) → run.log ≡ later ++ log → (entry : Entry) → IsAmong entry (entries log) → IsAmong entry (entries run.log)
-entry_at_end run later log joined entry among =
-    subst (λ l. IsAmong entry (entries l)) (sym joined)
-    (subst (IsAmong entry) (sym (entries-append later log)) (among_front entry (entries log) (entries later) among))
-
--- In an order that rises and names the entries' lines they are taken in the order of their lines.
-pub rising_journal : {setting : Setting} {readings : List Reading} {number : ℕ} → (order : List ℕ) (log : List Happening) → LogFits setting readings log number → IsRising order
-    → ((entry : Entry) → IsAmong entry (entries log) → IsAmong (line_of entry) order) → journal_at order log ≡ entries log
-rising_journal order log fits rises listed = arranged order (entries log) fits.rising listed (rising_stands order (entries log) rises)
-
--- So they are in the order of all lines of the run.
-pub line_journal : {setting : Setting} {readings : List Reading} {number : ℕ} → (run : Run) (later log : List Happening) → run.log ≡ later ++ log
-    → LogFits setting readings log number → IsRising (line_order (entries run.log)) → journal_at (line_order (entries run.log)) log ≡ entries log
-line_journal run later log joined fits rises =
-    rising_journal (line_order (entries run.log)) log fits rises
-    (λ entry among. among_map line_of entry (entries run.log) (entry_at_end run later log joined entry among))
+-- And the other way round.
+got_in_line : (setting : Setting) (readings : List Reading) (workers : ℕ) (order : List ℕ) (log : List Happening) (number : ℕ)
+    → length setting.addresses ≤ 5 → ForSome setting.kept (λ link. link < length setting.addresses) → LogFits setting readings log number
+    → IsOrdered setting.addresses readings workers order → ((entry : Entry) → IsAmong entry (entries log) → IsAmong (line_of entry) order)
+    → (link : ℕ) (texts : List (List ℕ)) → AreDownlinks setting (entries log) link texts → AreDownlinks setting (journal_at order log) link texts
+got_in_line setting readings workers order log number few kept fits ordered listed link texts are =
+    downlinks_carry setting few (kept_first setting few kept) link (entries log) (journal_at order log)
+    (λ entry among. (fits.each entry among).inside)
+    (λ entry among. journal_from order (entries log) entry among)
+    (sym (heard_in_line setting readings workers link order log number fits ordered listed)) texts are
 
 -- ---- the lines of the output
 
 -- Where each link has the same downlinks and the same logon state, the lines of the links are the same.
 link_lines_agree : (setting : Setting) (one other : List Entry) (link : ℕ) (addresses : List (List ℕ)) (text : List ℕ)
-    → ((at : ℕ) (texts : List (List ℕ)) → at < link + length addresses → AreDownlinks setting one at texts → AreDownlinks setting other at texts)
-    → ((at : ℕ) → at < link + length addresses → logon_state at one ≡ logon_state at other)
+    → ((at : ℕ) (texts : List (List ℕ)) → AreDownlinks setting one at texts → AreDownlinks setting other at texts)
+    → ((at : ℕ) → logon_state at one ≡ logon_state at other)
     → AreLinkLines setting one link addresses text → AreLinkLines setting other link addresses text
 link_lines_agree setting one other link [] text downlinks logons lines = lines
 link_lines_agree setting one other link (address ∷ addresses) text downlinks logons (texts, behind, are, more, spelled) = (
   texts,
   behind,
-  downlinks link texts (omega arith) are,
-  link_lines_agree setting one other (link + 1) addresses behind (λ at found below. downlinks at found (omega (arith, below)))
-      (λ at below. logons at (omega (arith, below))) more,
-  spelled ∙ ap (λ state. logon_line address state ++ (downlink_lines texts ++ behind)) (logons link (omega arith)),
+  downlinks link texts are,
+  link_lines_agree setting one other (link + 1) addresses behind downlinks logons more,
+  spelled ∙ ap (λ state. logon_line address state ++ (downlink_lines texts ++ behind)) (logons link),
 )
 
--- ---- the law on orders
+-- ---- one run in the order of all lines
 
 some_same : {A : Type 0} (one other : A) → Some one ≡ Some other → one ≡ other
 some_same one other e = cc
 
-module _ (script : Script) (order : List ℕ) (run : Run) (workers : ℕ) (setting : Setting) (allowed : IsAllowedOrder script run workers order)
-    (flies : run.setting ≡ Some setting) (few : length setting.addresses ≤ 5) (kept : ForSome setting.kept (λ link. link < length setting.addresses)) where
-  ordered : IsOrdered setting.addresses script.readings workers order
-  ordered = subst (λ s. IsOrdered (addresses_in s) script.readings workers order) flies allowed.ordered
+module _ (script : Script) (order : List ℕ) (run : Run) (workers : ℕ) (allowed : IsAllowedOrder script run workers order)
+    (few : (setting : Setting) → run.setting ≡ Some setting → length setting.addresses ≤ 5)
+    (kept : (setting : Setting) → run.setting ≡ Some setting → ForSome setting.kept (λ link. link < length setting.addresses)) where
+  ordered : (setting : Setting) → run.setting ≡ Some setting → IsOrdered setting.addresses script.readings workers order
+  ordered setting flies = subst (λ s. IsOrdered (addresses_in s) script.readings workers order) flies allowed.ordered
 
-  finds : FindsSame script.readings order (line_order (entries run.log)) run
-  finds = record { finds = found }
+  finds : FindsSame script.readings order (all_lines script) run
+  finds = record { finds = λ setting log number later flies joined fits rises link texts are. found setting log number later flies joined fits link texts are }
     where
-      found : (other : Setting) (log : List Happening) (number : ℕ) (later : List Happening)
-          → run.setting ≡ Some other → run.log ≡ later ++ log → LogFits other script.readings log number → IsRising (line_order (entries run.log))
-          → (link : ℕ) (texts : List (List ℕ)) → AreDownlinks other (journal_at order log) link texts
-          → AreDownlinks other (journal_at (line_order (entries run.log)) log) link texts
-      found other log number later its joined fits rises link texts are =
-          let same : setting ≡ other = some_same setting other (sym flies ∙ its) in
-          subst (λ journal. AreDownlinks other journal link texts) (sym (line_journal run later log joined fits rises))
-          (at other same fits are)
-        where
-          listed : (entry : Entry) → IsAmong entry (entries log) → IsAmong (line_of entry) order
-          listed entry among = allowed.lines.whole entry (entry_at_end run later log joined entry among)
+      found : (setting : Setting) (log : List Happening) (number : ℕ) (later : List Happening)
+          → run.setting ≡ Some setting → run.log ≡ later ++ log → LogFits setting script.readings log number
+          → (link : ℕ) (texts : List (List ℕ)) → AreDownlinks setting (journal_at order log) link texts
+          → AreDownlinks setting (journal_at (all_lines script) log) link texts
+      found setting log number later flies joined fits link texts are =
+          subst (λ journal. AreDownlinks setting journal link texts) (sym (all_lines_journal script log fits))
+          (gets_in_line setting script.readings workers order log number (few setting flies) (kept setting flies) fits (ordered setting flies)
+          (λ entry among. allowed.lines.whole entry (entry_at_end run later log joined entry among)) link texts are)
 
-          at : (other : Setting) → setting ≡ other → LogFits other script.readings log number → AreDownlinks other (journal_at order log) link texts
-              → AreDownlinks other (entries log) link texts
-          at other same fits are =
-              subst (λ s. AreDownlinks s (entries log) link texts) same
-              (gets_in_line setting script.readings workers order log number few kept (subst (λ s. LogFits s script.readings log number) (sym same) fits)
-              ordered listed link texts (subst (λ s. AreDownlinks s (journal_at order log) link texts) (sym same) are))
+  -- The run is one in the order of all lines.
+  pub runs_in_line : ScriptRun script order run → ScriptRun script (all_lines script) run
+  runs_in_line runs =
+      let under : RunsUnder script.readings script.over (all_lines script) begun [] 1 script.readings run
+      = runs_under script.readings script.over order (all_lines script) run finds [] script.readings refl begun [] 1 refl refl runs in
+      under.runs
 
   module _ (runs : ScriptRun script order run) where
-    under : RunsUnder script.readings script.over (line_order (entries run.log)) begun [] 1 script.readings run
-    under = runs_under script.readings script.over order (line_order (entries run.log)) run finds [] script.readings refl begun [] 1 refl refl runs
+    -- Each link gets the same of the journal as of the entries in the order of their lines.
+    pub downlinks_in_line : (setting : Setting) → run.setting ≡ Some setting → (link : ℕ) (texts : List (List ℕ))
+        → AreDownlinks setting (journal_at order run.log) link texts ↔ AreDownlinks setting (entries run.log) link texts
+    downlinks_in_line setting flies link texts =
+        let fits = (log_fits script order run setting runs flies).1 in
+        let number = (log_fits script order run setting runs flies).0 in (
+          gets_in_line setting script.readings workers order run.log number (few setting flies) (kept setting flies) fits (ordered setting flies)
+              allowed.lines.whole link texts,
+          got_in_line setting script.readings workers order run.log number (few setting flies) (kept setting flies) fits (ordered setting flies)
+              allowed.lines.whole link texts,
+        )
 
-    fits_flying : (last : Stage) (count : ℕ) → run.setting ≡ setting_at last → StageFits script.readings last run.log count → LogFits setting script.readings run.log count
-    fits_flying begun count its fits = absurd (let e : None ≡ Some setting = sym its ∙ flies in cc)
-    fits_flying (named who) count its fits = absurd (let e : None ≡ Some setting = sym its ∙ flies in cc)
-    fits_flying (linked who addresses kept) count its fits = absurd (let e : None ≡ Some setting = sym its ∙ flies in cc)
-    fits_flying (flying other) count its fits =
-        subst (λ s. LogFits s script.readings run.log count) (some_same other setting (sym its ∙ flies)) fits
+    -- And it has the same logon state.
+    pub logon_in_line : (link : ℕ) → logon_state link (journal_at order run.log) ≡ logon_state link (entries run.log)
+    logon_in_line link = at run.setting refl
+      where
+        at : (setting : Option Setting) → run.setting ≡ setting → logon_state link (journal_at order run.log) ≡ logon_state link (entries run.log)
+        at None none =
+            ap (λ log. logon_state link (journal_at order log)) (nothing_happened script order run runs none)
+            ∙ ap (logon_state link) (none_of_none order)
+            ∙ sym (ap (λ log. logon_state link (entries log)) (nothing_happened script order run runs none))
+        at (Some setting) flies =
+            let fits = log_fits script order run setting runs flies in
+            same_logon link (journal_at order run.log) (entries run.log)
+            (heard_in_line setting script.readings workers link order run.log fits.0 fits.1 (ordered setting flies) allowed.lines.whole)
 
-    at_end : LogFits setting script.readings run.log under.count
-    at_end = fits_flying under.last under.count under.setting under.fits
+-- ---- two orders of one run
 
-    same_downlinks : (link : ℕ) (texts : List (List ℕ)) → AreDownlinks setting (journal_at order run.log) link texts → AreDownlinks setting (entries run.log) link texts
-    same_downlinks link texts are = gets_in_line setting script.readings workers order run.log under.count few kept at_end ordered allowed.lines.whole link texts are
+module _ (order other_order : List ℕ) (run : Run)
+    (downlinks : (setting : Setting) → run.setting ≡ Some setting → (link : ℕ) (texts : List (List ℕ))
+    → AreDownlinks setting (journal_at order run.log) link texts ↔ AreDownlinks setting (journal_at other_order run.log) link texts)
+    (logons : (link : ℕ) → logon_state link (journal_at order run.log) ≡ logon_state link (journal_at other_order run.log)) where
+  lines_agree : (setting : Option Setting) → run.setting ≡ setting → (text : List ℕ) → AreLinesOfLinks setting (journal_at order run.log) text
+      → AreLinesOfLinks setting (journal_at other_order run.log) text
+  lines_agree None flies text lines = lines
+  lines_agree (Some setting) flies text lines =
+      link_lines_agree setting (journal_at order run.log) (journal_at other_order run.log) 0 setting.addresses text
+      (λ link texts are. (downlinks setting flies link texts).0 are) logons lines
 
-    same_logons : (link : ℕ) → logon_state link (journal_at order run.log) ≡ logon_state link (entries run.log)
-    same_logons link =
-        same_logon link (journal_at order run.log) (entries run.log)
-        (heard_in_line setting script.readings workers link order run.log under.count at_end ordered allowed.lines.whole)
+  end_agrees : (end : End) (behind : List ℕ) → IsEndText order run end behind → IsEndText other_order run end behind
+  end_agrees Done behind (links, lines, spelled) = (links, lines_agree run.setting refl links lines, spelled)
+  end_agrees (Bad bad) behind spelled = spelled
+  end_agrees (Limit line) behind spelled = spelled
 
-    in_line : journal_at (line_order (entries run.log)) run.log ≡ entries run.log
-    in_line = line_journal run [] run.log refl at_end at_end.rising
+  output_agrees : (text other_text : List ℕ) → IsRunText order run text → IsRunText other_order run other_text
+      → DifferInJournalLine order other_order text other_text
+  output_agrees text other_text one other = (
+    one.behind,
+    one.spelled,
+    other.spelled
+        ∙ ap (λ behind. journal_line other_order ++ behind)
+        (end_text_one other_order run run.end other.behind one.behind other.is_end (end_agrees run.end one.behind one.is_end)),
+  )
 
-    same_lines : (links : List ℕ) → AreLinesOfLinks run.setting (journal_at order run.log) links
-        → AreLinesOfLinks run.setting (journal_at (line_order (entries run.log)) run.log) links
-    same_lines links lines =
-        subst (λ journal. AreLinesOfLinks run.setting journal links) (sym in_line)
-        (subst (λ s. AreLinesOfLinks s (entries run.log) links) (sym flies)
-        (link_lines_agree setting (journal_at order run.log) (entries run.log) 0 setting.addresses links
-        (λ link texts below are. same_downlinks link texts are) (λ link below. same_logons link)
-        (subst (λ s. AreLinesOfLinks s (journal_at order run.log) links) flies lines)))
+  pub run_agrees : RunsAgree order other_order run run
+  run_agrees = record { same = refl; downlinks = downlinks; logons = logons; output = output_agrees }
 
-    same_output : (end : End) (behind : List ℕ) → IsEndText order run end behind → IsEndText (line_order (entries run.log)) run end behind
-    same_output Done behind (links, lines, spelled) = (links, same_lines links lines, spelled)
-    same_output (Bad bad) behind spelled = spelled
-    same_output (Limit line) behind spelled = spelled
+-- ---- the law
 
-    pub agrees : AgreesWithLineOrder script order setting run
-    agrees =
-        record {
-          runs = under.runs;
-          downlinks = λ link texts inside are. same_downlinks link texts are;
-          logons = λ link inside. same_logons link;
-          output = same_output run.end;
-        }
+few_links : (found : Option Setting) → length (addresses_in found) ≤ 5 → (setting : Setting) → found ≡ Some setting → length setting.addresses ≤ 5
+few_links found few setting flies = subst (λ s. length (addresses_in s) ≤ 5) flies few
 
-pub orders_agree : (bytes : List ℕ) (script : Script) (order : List ℕ) (run : Run) (workers : ℕ) (setting : Setting) → IsScript bytes script
-    → ScriptRun script order run → IsAllowedOrder script run workers order → run.setting ≡ Some setting → length setting.addresses ≤ 5
-    → AgreesWithLineOrder script order setting run
-orders_agree bytes script order run workers setting is_script runs allowed flies few =
-    agrees script order run workers setting allowed flies few (run_deeds bytes script order run setting is_script runs flies).settled.kept runs
+module _ (bytes : List ℕ) (script : Script) (is_script : IsScript bytes script) where
+  kept_link : (order : List ℕ) (run : Run) → ScriptRun script order run → (setting : Setting) → run.setting ≡ Some setting
+      → ForSome setting.kept (λ link. link < length setting.addresses)
+  kept_link order run runs setting flies = (run_deeds bytes script order run setting is_script runs flies).settled.kept
+
+  -- Two runs with few links are one.
+  one_run_of_few : (workers others : ℕ) (order other_order : List ℕ) (run other : Run) → length (addresses_in run.setting) ≤ 5
+      → ScriptRun script order run → IsAllowedOrder script run workers order → ScriptRun script other_order other
+      → IsAllowedOrder script other others other_order → run ≡ other
+  one_run_of_few workers others order other_order run other few runs allowed too allowed' =
+      one_run script (all_lines script) run other
+      (runs_in_line script order run workers allowed (few_links run.setting few) (kept_link order run runs) runs)
+      (runs_in_line script other_order other others allowed'
+      (few_links other.setting (subst (λ s. length (addresses_in s) ≤ 5) (one_aircraft script order other_order run other runs too) few))
+      (kept_link other_order other too) too)
+
+  -- Two orders of one run agree.
+  orders_of_run_agree : (workers others : ℕ) (order other_order : List ℕ) (run : Run) → length (addresses_in run.setting) ≤ 5
+      → ScriptRun script order run → IsAllowedOrder script run workers order → ScriptRun script other_order run
+      → IsAllowedOrder script run others other_order → RunsAgree order other_order run run
+  orders_of_run_agree workers others order other_order run few runs allowed too allowed' =
+      run_agrees order other_order run
+      (λ setting flies link texts. (
+        λ are. (theirs setting flies link texts).1 ((ours setting flies link texts).0 are),
+        λ are. (ours setting flies link texts).1 ((theirs setting flies link texts).0 are),
+      ))
+      (λ link. logon_in_line script order run workers allowed (few_links run.setting few) (kept_link order run runs) runs link
+      ∙ sym (logon_in_line script other_order run others allowed' (few_links run.setting few) (kept_link other_order run too) too link))
+    where
+      ours : (setting : Setting) → run.setting ≡ Some setting → (link : ℕ) (texts : List (List ℕ))
+          → AreDownlinks setting (journal_at order run.log) link texts ↔ AreDownlinks setting (entries run.log) link texts
+      ours = downlinks_in_line script order run workers allowed (few_links run.setting few) (kept_link order run runs) runs
+
+      theirs : (setting : Setting) → run.setting ≡ Some setting → (link : ℕ) (texts : List (List ℕ))
+          → AreDownlinks setting (journal_at other_order run.log) link texts ↔ AreDownlinks setting (entries run.log) link texts
+      theirs = downlinks_in_line script other_order run others allowed' (few_links run.setting few) (kept_link other_order run too) too
+
+pub orders_agree : OrdersAgree
+orders_agree bytes script workers others order other_order run other is_script few runs allowed too allowed' =
+    let same : run ≡ other = one_run_of_few bytes script is_script workers others order other_order run other few runs allowed too allowed' in
+    subst (RunsAgree order other_order run) same
+    (orders_of_run_agree bytes script is_script workers others order other_order run few runs allowed
+    (subst (ScriptRun script other_order) (sym same) too) (subst (λ r. IsAllowedOrder script r others other_order) (sym same) allowed'))

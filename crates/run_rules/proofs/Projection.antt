@@ -66,7 +66,7 @@ pub rising_stands : (order : List ℕ) (made : List Entry) → IsRising order �
 rising_stands [] made rising = tt
 rising_stands (first ∷ order) made rising = ((λ one other is_one is_other e named. rising.0 (line_of other) named), rising_stands order made rising.1)
 
-none_of_none : (order : List ℕ) → journal_of order [] ≡ []
+pub none_of_none : (order : List ℕ) → journal_of order [] ≡ []
 none_of_none [] = refl
 none_of_none (number ∷ order) = none_of_none order
 

@@ -1,16 +1,15 @@
 -- The laws of the definitions, as statements.
-use Rattle.std.specs.Prelude.{◌≡◌, ◌≤◌, ◌<◌, ◌++◌, ℕ, All, List, length, Some}
+use Rattle.std.specs.Prelude.{◌≡◌, ◌↔◌, ◌≤◌, ◌++◌, ℕ, All, List, length, Some}
 use Rattle.adsc_io.specs.declared.limits.TheConstants.{MAX_SCRIPT_LINES}
 use Rattle.aircraft_core.specs.Downlinks.{AreDownlinks}
 use Rattle.aircraft_core.specs.LogonStates.{logon_state}
 use Rattle.aircraft_core.specs.Setting.{Setting}
 use Rattle.adsc_requests.specs.declared.message.Message.{Message}
 use Rattle.run_rules.specs.Claims.{IsShownConfirmed, NoEarlyReuse, WasAccepted, ask_count}
-use Rattle.run_rules.specs.Happenings.{entries}
-use Rattle.run_rules.specs.Orders.{IsRising, line_order}
-use Rattle.run_rules.specs.Output.{IsEndText, IsRunText, journal_line}
+use Rattle.run_rules.specs.Orders.{IsRising}
+use Rattle.run_rules.specs.Output.{IsRunText, journal_line}
 use Rattle.run_rules.specs.Readings.{ReadsLine}
-use Rattle.run_rules.specs.Runs.{Script, IsScript, Run, ScriptRun, IsAllowedOrder, journal_at}
+use Rattle.run_rules.specs.Runs.{Script, IsScript, Run, ScriptRun, IsAllowedOrder, addresses_in, journal_at}
 use Rattle.run_rules.specs.declared.reading.Reading.{Reading}
 
 -- A line has one reading at its place, and so an input is one script.
@@ -50,22 +49,30 @@ RisingIsAllowed = (bytes : List ℕ) (script : Script) → IsScript bytes script
     → (order : List ℕ) × (run : Run) × ScriptRun script order run × IsRising order
     × ((workers : ℕ) → IsAllowedOrder script run workers order)
 
--- A run under an order and the same run with the lines in their own order agree: the log is the same, each link has the same
--- downlinks and the same logon state, and so the output is the same but for its journal line.
-pub record AgreesWithLineOrder (script : Script) (order : List ℕ) (setting : Setting) (run : Run) : Type 0 where
-  pub runs : ScriptRun script (line_order (entries run.log)) run
-  pub downlinks : (link : ℕ) (texts : List (List ℕ)) → link < length setting.addresses
-      → AreDownlinks setting (journal_at order run.log) link texts → AreDownlinks setting (entries run.log) link texts
-  pub logons : (link : ℕ) → link < length setting.addresses → logon_state link (journal_at order run.log) ≡ logon_state link (entries run.log)
-  pub output : (behind : List ℕ) → IsEndText order run run.end behind → IsEndText (line_order (entries run.log)) run run.end behind
+-- Two outputs differ in the journal line alone, which shows the order.
+abbrev pub DifferInJournalLine : List ℕ → List ℕ → List ℕ → List ℕ → Type 0
+DifferInJournalLine order other_order text other_text =
+    (behind : List ℕ) × (text ≡ journal_line order ++ behind) × (other_text ≡ journal_line other_order ++ behind)
 
--- With at most five ground addresses every allowed order gives what the order of the lines gives, for every number of workers and with
--- a kept connection too.
+-- Two runs, each under an order of its own, agree. They are one run: the same happened, so the same texts were refused and each centre has
+-- the same rows; and they end alike. Each link has the same downlinks and the same logon state. So what is written is the same but for the
+-- journal line.
+pub record RunsAgree (order other_order : List ℕ) (run other : Run) : Type 0 where
+  pub same : run ≡ other
+  pub downlinks : (setting : Setting) → run.setting ≡ Some setting → (link : ℕ) (texts : List (List ℕ))
+      → AreDownlinks setting (journal_at order run.log) link texts ↔ AreDownlinks setting (journal_at other_order other.log) link texts
+  pub logons : (link : ℕ) → logon_state link (journal_at order run.log) ≡ logon_state link (journal_at other_order other.log)
+  pub output : (text other_text : List ℕ) → IsRunText order run text → IsRunText other_order other other_text
+      → DifferInJournalLine order other_order text other_text
+
+-- With at most five ground addresses the runs of a script agree under whatever two allowed orders, each for a number of workers of its
+-- own, with a kept connection too.
 abbrev pub OrdersAgree : Type 0
-OrdersAgree = (bytes : List ℕ) (script : Script) (order : List ℕ) (run : Run) (workers : ℕ) (setting : Setting)
-    → IsScript bytes script → ScriptRun script order run → IsAllowedOrder script run workers order
-    → run.setting ≡ Some setting → length setting.addresses ≤ 5
-    → AgreesWithLineOrder script order setting run
+OrdersAgree = (bytes : List ℕ) (script : Script) (workers others : ℕ) (order other_order : List ℕ) (run other : Run)
+    → IsScript bytes script → length (addresses_in run.setting) ≤ 5
+    → ScriptRun script order run → IsAllowedOrder script run workers order
+    → ScriptRun script other_order other → IsAllowedOrder script other others other_order
+    → RunsAgree order other_order run other
 
 -- What a centre shows confirmed or partial at the end of a run, however it ends, was accepted by the aircraft, with those parameters,
 -- unless the centre reused a number too early: for every number of workers, and every allowed order.

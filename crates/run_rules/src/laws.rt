@@ -46,9 +46,9 @@ pub fn a_rising_order_is_allowed()
     ensures { RisingIsAllowed }
 {}
 
-/// With at most five ground addresses it doesn't matter in which allowed order the entries are taken, by how many workers: what happens
-/// is the same, each link has the same downlinks and the same logon state as in the order of the lines, and so the output is the same but
-/// for its journal line.
+/// With at most five ground addresses it doesn't matter in which allowed order the entries are taken, nor by how many workers: of two runs
+/// of a script the same happens and they end alike, so the same texts are refused and each centre has the same rows; each link has the same
+/// downlinks and the same logon state; and so the output is the same but for its journal line.
 pub fn orders_agree()
     ensures { OrdersAgree }
 {}
