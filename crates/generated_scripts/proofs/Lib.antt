@@ -1,7 +1,6 @@
 pub mod DrawnLimits
 pub mod HasSummary
 pub mod HeadLines
-pub mod JournalCounts
 pub mod LineFields
 pub mod LinesDrawn
 pub mod MadeLines

@@ -5,14 +5,14 @@ use Rattle.aircraft_core.specs.Downlinks.{AreDownlinks}
 use Rattle.aircraft_core.specs.Setting.{Setting}
 use Rattle.aircraft_core.specs.declared.entry.Entry.{Entry}
 use Rattle.aircraft_core.proofs.OneList.{same_downlinks}
-use Rattle.run_rules.specs.Happenings.{entries, refused_lines}
+use Rattle.run_rules.specs.Happenings.{refused_lines}
 use Rattle.run_rules.specs.Laws.{RunsAgree}
 use Rattle.run_rules.specs.Runs.{IsAllowedOrder, IsScript, Run, Script, ScriptRun, addresses_in, journal_at}
+use Rattle.run_rules.proofs.JournalCounts.{as_many}
 use Rattle.run_rules.proofs.OrdersAgree.{orders_agree}
 use Rattle.generated_scripts.specs.Generator.{made_script}
 use Rattle.generated_scripts.specs.Laws.{OneSummary}
 use Rattle.generated_scripts.specs.Summaries.{AreLinkLines, IsSummaryOf, IsSummaryText, count_line, link_line}
-use Rattle.generated_scripts.proofs.JournalCounts.{journal_count}
 use Rattle.generated_scripts.proofs.MadeRuns.{script_taken}
 
 -- ---- one text
@@ -56,12 +56,6 @@ few_addresses number lines script order run some few is runs =
 
 same_setting : (one other : Setting) (found : Option Setting) → found ≡ Some one → found ≡ Some other → one ≡ other
 same_setting one other found is too = let both : Some one ≡ Some other = sym is ∙ too in cc
-
--- The journal of an allowed order has each entry once.
-as_many : (script : Script) (run : Run) (workers : ℕ) (order : List ℕ) → IsAllowedOrder script run workers order
-    → length (journal_at order run.log) ≡ length (entries run.log)
-as_many script run workers order allowed =
-    journal_count (addresses_in run.setting) script.readings workers order (entries run.log) allowed.ordered allowed.lines.whole
 
 summary_of_one : (number lines : ℕ) (script : Script) (workers others : ℕ) (order other_order : List ℕ) (run : Run) (text other_text : List ℕ)
     → RunsAgree order other_order run run → IsAllowedOrder script run workers order → IsSummaryOf number lines order run text

@@ -1,13 +1,20 @@
 -- A journal line shows its order: a number's digits end where a comma or a newline stands, and no two numbers have the same digits.
-use Rattle.std.proofs.Common.{◌≡◌, ◌<◌, ◌≤◌, ◌^◌, ℕ, List, [], ◌∷◌, ◌++◌, All, drop, flat_map, get_or, refl, sym, ap, ap₂, ◌∙◌, subst, append_assoc, arith}
+use Rattle.std.proofs.Common.{◌≡◌, ◌<◌, ◌≤◌, ◌^◌, ℕ, List, [], ◌∷◌, ◌++◌, All, drop, flat_map, get_or, inl, inr, refl, sym, ap, ap₂, ◌∙◌, subst, append_assoc, arith}
 use Rattle.std.specs.Prelude.{decimal}
 use Rattle.std.proofs.lemmas.Fmt.{decimal_injective, decimal_is_IsNumeral}
-use Rattle.std.proofs.lemmas.List.Elements.{All-from_get_or, All-head, All-tail}
+use Rattle.std.proofs.lemmas.List.Elements.{All-cons, All-from_get_or, All-head, All-nil, All-tail}
 use Rattle.std.proofs.lemmas.Str.Parse.{digit_at}
 use Rattle.adsc_io.specs.Lines.{newline}
 use Rattle.adsc_io.specs.declared.limits.TheConstants.{MAX_SCRIPT_LINES}
 use Rattle.output_fields.specs.Fields.{number_field}
-use Rattle.run_rules.specs.Laws.{AreLineNumbers, JournalLineShowsOrder}
+use Rattle.run_rules.specs.Output.{journal_line}
+use Rattle.run_rules.specs.Among.{IsAmong}
+use Rattle.run_rules.specs.Laws.{IsTakingOrder, JournalLineShowsOrder}
+use Rattle.run_rules.proofs.LineNumbers.{orders_name_lines, few_lines}
+
+-- These are numbers that a script's lines may have.
+abbrev AreLineNumbers : List ℕ → Type 0
+AreLineNumbers lines = All (λ number. number ≤ MAX_SCRIPT_LINES) lines
 
 abbrev IsDigit : ℕ → Type 0
 IsDigit byte = (48 ≤ byte) × (byte ≤ 57)
@@ -61,9 +68,25 @@ fields_show (first ∷ one) (second ∷ other) behind rest lines others same =
     ap₂ (λ number numbers. number ∷ numbers) (decimal_injective first second first_small second_small digits.0)
     (fields_show one other behind rest (All-tail (λ n. n ≤ MAX_SCRIPT_LINES) first one lines) (All-tail (λ n. n ≤ MAX_SCRIPT_LINES) second other others) digits.1)
 
-pub journal_line_shows_order : JournalLineShowsOrder
-journal_line_shows_order one other behind rest lines others same =
+line_shows : (one other behind rest : List ℕ) → AreLineNumbers one → AreLineNumbers other
+    → journal_line one ++ behind ≡ journal_line other ++ rest → one ≡ other
+line_shows one other behind rest lines others same =
     fields_show one other behind rest lines others
     (sym (append_assoc (flat_map number_field one) (newline ∷ []) behind)
     ∙ ap (drop 1) same
     ∙ append_assoc (flat_map number_field other) (newline ∷ []) rest)
+
+-- ---- allowed orders
+
+all_of : (P : ℕ → Type 0) (order : List ℕ) → ((number : ℕ) → IsAmong number order → P number) → All P order
+all_of P [] each = All-nil P
+all_of P (first ∷ order) each = All-cons P first order (each first (inl refl)) (all_of P order (λ number among. each number (inr among)))
+
+are_line_numbers : (bytes order : List ℕ) → IsTakingOrder bytes order → AreLineNumbers order
+are_line_numbers bytes order taking =
+    all_of (λ number. number ≤ MAX_SCRIPT_LINES) order
+    (λ number among. let named = (orders_name_lines bytes order taking number among).1 in omega (arith, named, few_lines bytes))
+
+pub journal_line_shows_order : JournalLineShowsOrder
+journal_line_shows_order bytes others order other_order behind rest taking too same =
+    line_shows order other_order behind rest (are_line_numbers bytes order taking) (are_line_numbers others other_order too) same

@@ -1,5 +1,6 @@
 pub mod AcceptedAt
 pub mod Acknowledged
+pub mod AllowedOrders
 pub mod Along
 pub mod Beginnings
 pub mod CentreSteps
@@ -17,10 +18,12 @@ pub mod HeardItems
 pub mod HeardLines
 pub mod HeldRows
 pub mod ItemSizes
+pub mod JournalCounts
 pub mod JournalLines
 pub mod Journals
 pub mod KnownActs
 pub mod LineEntries
+pub mod LineNumbers
 pub mod LogEntries
 pub mod MadeDownlinks
 pub mod Members
@@ -56,6 +59,7 @@ pub mod WorkedHeads
 pub mod WorkedLines
 pub mod WorkedOldDownlink
 pub mod WorkedOldUplink
+pub mod WorkedOrders
 pub mod WorkedOtherRow
 pub mod WorkedReuse
 pub mod WorkedTexts

@@ -17,9 +17,9 @@ use Rattle.ground_texts.specs.declared.ground_text.AdsUplink.{AdsUplink}
 use Rattle.ground_texts.specs.declared.ground_text.GroundText.TheVariants as text
 use Rattle.run_rules.specs.Among.{IsAmong}
 use Rattle.run_rules.specs.Happenings.{Happening, Entered, is_centre}
-use Rattle.run_rules.specs.Histories.Bursts.{Admits, OrderDecides, in_line, last_first, six_addresses, six_links, six_texts, texts_of}
+use Rattle.run_rules.specs.Histories.Bursts.{Admits, OrderDecides, in_line, last_exchanged, six_addresses, six_links, six_texts, texts_of}
 use Rattle.run_rules.specs.Histories.Words.{emergency}
-use Rattle.run_rules.specs.Orders.{IsOrderOf, IsOrdered, IsRising, MayPass, is_burst_line, journal_of, place_on, reading_at}
+use Rattle.run_rules.specs.Orders.{IsOrderOf, IsOrdered, IsRising, MayPass, is_burst_line, journal_of, reading_at}
 use Rattle.run_rules.specs.Runs.{LinesRun, Run, ScriptRun, ended_run}
 use Rattle.run_rules.specs.Stages.{flying}
 use Rattle.run_rules.specs.Texts.{link_to}
@@ -30,34 +30,25 @@ use Rattle.run_rules.proofs.WorkedTexts.{brings_on, uplink_enters}
 -- ---- lists
 
 -- What holds of each of a list holds of whatever is among them.
-by_each : {A : Type 0} (P : A → Type 0) (xs : List A) → AllByRecursion P xs → (x : A) → IsAmong x xs → P x
+pub by_each : {A : Type 0} (P : A → Type 0) (xs : List A) → AllByRecursion P xs → (x : A) → IsAmong x xs → P x
 by_each P [] all x among = absurd among
 by_each P (y ∷ xs) all x (inl is) = subst P is all.0
 by_each P (y ∷ xs) all x (inr among) = by_each P xs all.1 x among
 
-rising_is_ordered : (addresses : List (List ℕ)) (readings : List Reading) (workers : ℕ) (order : List ℕ) → IsRising order
+pub rising_is_ordered : (addresses : List (List ℕ)) (readings : List Reading) (workers : ℕ) (order : List ℕ) → IsRising order
     → IsOrdered addresses readings workers order
 rising_is_ordered addresses readings workers [] rising = tt
 rising_is_ordered addresses readings workers (first ∷ order) rising =
     (λ number among. inl (rising.0 number among), rising_is_ordered addresses readings workers order rising.1)
 
 -- Numbers above another one.
-abbrev AreAbove : ℕ → List ℕ → Type 0
+abbrev pub AreAbove : ℕ → List ℕ → Type 0
 AreAbove first order = AllByRecursion (λ number. first < number) order
 
-above : (first : ℕ) (order : List ℕ) → AreAbove first order → (number : ℕ) → IsAmong number order → first < number
+pub above : (first : ℕ) (order : List ℕ) → AreAbove first order → (number : ℕ) → IsAmong number order → first < number
 above first order all number among = by_each (λ n. first < n) order all number among
 
--- The lines 4 to 8 rise, and so do 4 to 9.
-five_rise : IsRising (4 ∷ 5 ∷ 6 ∷ 7 ∷ 8 ∷ [])
-five_rise = (
-  above 4 (5 ∷ 6 ∷ 7 ∷ 8 ∷ []) (omega arith, (omega arith, (omega arith, (omega arith, tt)))),
-  (
-    above 5 (6 ∷ 7 ∷ 8 ∷ []) (omega arith, (omega arith, (omega arith, tt))),
-    (above 6 (7 ∷ 8 ∷ []) (omega arith, (omega arith, tt)), (above 7 (8 ∷ []) (omega arith, tt), (λ number none. absurd none, tt))),
-  ),
-)
-
+-- The lines 4 to 9 rise.
 six_rise : IsRising in_line
 six_rise = (
   above 4 (5 ∷ 6 ∷ 7 ∷ 8 ∷ 9 ∷ []) (omega arith, (omega arith, (omega arith, (omega arith, (omega arith, tt))))),
@@ -73,7 +64,7 @@ six_rise = (
 -- ---- the run
 
 -- A text of an address, with these octets for this aircraft, which are read as this uplink.
-abbrev text_from : Who → ArrayVec ℕ → UplinkMessages → List ℕ → AdsUplink
+abbrev pub text_from : Who → ArrayVec ℕ → UplinkMessages → List ℕ → AdsUplink
 text_from who octets uplink address = record { address = address; registration = who.registration; octets = octets; asked = Ok uplink }
 
 -- The entries of the texts.
@@ -133,46 +124,40 @@ in_burst who sample octets uplink (suc (suc (suc (suc (suc (suc (suc (suc zero))
 in_burst who sample octets uplink (suc (suc (suc (suc (suc (suc (suc (suc (suc zero))))))))) from to = refl
 in_burst who sample octets uplink (suc (suc (suc (suc (suc (suc (suc (suc (suc (suc more)))))))))) from to = absurd (omega (arith, to))
 
--- The last text may pass one before it.
-LastPasses : Who → FlightSample → ArrayVec ℕ → UplinkMessages → ℕ → Type 0
-LastPasses who sample octets uplink number =
-    (9 < number) ⊎ ((number < 9) × MayPass six_addresses (six_texts who sample octets uplink).readings 6 number 9)
+-- The last text may pass the one before it.
+last_passes : (who : Who) (sample : FlightSample) (octets : ArrayVec ℕ) (uplink : UplinkMessages)
+    → MayPass six_addresses (six_texts who sample octets uplink).readings 5 8 9
+last_passes who sample octets uplink =
+    record {
+      burst = λ number from upto. in_burst who sample octets uplink number (omega (arith, from)) upto;
+      one = 4;
+      other = 5;
+      earlier_place = refl;
+      later_place = refl;
+      apart = λ same. omega (arith, same);
+    }
 
-last_passes : (who : Who) (sample : FlightSample) (octets : ArrayVec ℕ) (uplink : UplinkMessages) (number place : ℕ) → 4 ≤ number → number < 9
-    → place_on six_addresses (reading_at (six_texts who sample octets uplink).readings number) ≡ Some place → place < 5
-    → LastPasses who sample octets uplink number
-unfolding LastPasses
-last_passes who sample octets uplink number place from to is less = inr (
-  to,
-  record {
-    burst = λ k above below. in_burst who sample octets uplink k (omega (arith, from, above)) below;
-    one = place;
-    other = 5;
-    earlier_place = is;
-    later_place = refl;
-    apart = λ same. omega (arith, same, less);
-  },
-)
-
-last_first_ordered : (who : Who) (sample : FlightSample) (octets : ArrayVec ℕ) (uplink : UplinkMessages)
-    → IsOrdered six_addresses (six_texts who sample octets uplink).readings 6 last_first
-unfolding LastPasses
-last_first_ordered who sample octets uplink = (
-  λ number among. by_each (LastPasses who sample octets uplink) (4 ∷ 5 ∷ 6 ∷ 7 ∷ 8 ∷ []) (
-    last_passes who sample octets uplink 4 0 (omega arith) (omega arith) refl (omega arith),
+last_exchanged_ordered : (who : Who) (sample : FlightSample) (octets : ArrayVec ℕ) (uplink : UplinkMessages)
+    → IsOrdered six_addresses (six_texts who sample octets uplink).readings 5 last_exchanged
+last_exchanged_ordered who sample octets uplink = (
+  λ number among. inl (above 4 (5 ∷ 6 ∷ 7 ∷ 9 ∷ 8 ∷ []) (omega arith, (omega arith, (omega arith, (omega arith, (omega arith, tt))))) number among),
+  (
+    λ number among. inl (above 5 (6 ∷ 7 ∷ 9 ∷ 8 ∷ []) (omega arith, (omega arith, (omega arith, (omega arith, tt)))) number among),
     (
-      last_passes who sample octets uplink 5 1 (omega arith) (omega arith) refl (omega arith),
+      λ number among. inl (above 6 (7 ∷ 9 ∷ 8 ∷ []) (omega arith, (omega arith, (omega arith, tt))) number among),
       (
-        last_passes who sample octets uplink 6 2 (omega arith) (omega arith) refl (omega arith),
-        (
-          last_passes who sample octets uplink 7 3 (omega arith) (omega arith) refl (omega arith),
-          (last_passes who sample octets uplink 8 4 (omega arith) (omega arith) refl (omega arith), tt),
-        ),
+        λ number among. inl (above 7 (9 ∷ 8 ∷ []) (omega arith, (omega arith, tt)) number among),
+        (λ number among. passed number among, (λ number none. absurd none, tt)),
       ),
     ),
-  ) number among,
-  rising_is_ordered six_addresses (six_texts who sample octets uplink).readings 6 (4 ∷ 5 ∷ 6 ∷ 7 ∷ 8 ∷ []) five_rise,
+  ),
 )
+  where
+    passed : (number : ℕ) → IsAmong number (8 ∷ [])
+        → (9 < number) ⊎ ((number < 9) × MayPass six_addresses (six_texts who sample octets uplink).readings 5 number 9)
+    passed number (inl is) =
+        inr (omega (arith, is), subst (λ n. MayPass six_addresses (six_texts who sample octets uplink).readings 5 n 9) is (last_passes who sample octets uplink))
+    passed number (inr none) = absurd none
 
 -- Some entry of the six has this line.
 abbrev HasEntry : ArrayVec ℕ → ℕ → Type 0
@@ -206,32 +191,29 @@ in_line_of octets = record {
 }
 
 -- The other order has the same lines.
-to_last_first : (number : ℕ) → IsAmong number in_line → IsAmong number last_first
-to_last_first =
-    by_each (λ number. IsAmong number last_first) in_line (
-      inr (inl refl),
+to_last_exchanged : (number : ℕ) → IsAmong number in_line → IsAmong number last_exchanged
+to_last_exchanged =
+    by_each (λ number. IsAmong number last_exchanged) in_line (
+      inl refl,
       (
-        inr (inr (inl refl)),
-        (
-          inr (inr (inr (inl refl))),
-          (inr (inr (inr (inr (inl refl)))), (inr (inr (inr (inr (inr (inl refl))))), (inl refl, tt))),
-        ),
+        inr (inl refl),
+        (inr (inr (inl refl)), (inr (inr (inr (inl refl))), (inr (inr (inr (inr (inr (inl refl))))), (inr (inr (inr (inr (inl refl)))), tt)))),
       ),
     )
 
-to_in_line : (number : ℕ) → IsAmong number last_first → IsAmong number in_line
+to_in_line : (number : ℕ) → IsAmong number last_exchanged → IsAmong number in_line
 to_in_line =
-    by_each (λ number. IsAmong number in_line) last_first (
-      inr (inr (inr (inr (inr (inl refl))))),
+    by_each (λ number. IsAmong number in_line) last_exchanged (
+      inl refl,
       (
-        inl refl,
-        (inr (inl refl), (inr (inr (inl refl)), (inr (inr (inr (inl refl))), (inr (inr (inr (inr (inl refl)))), tt)))),
+        inr (inl refl),
+        (inr (inr (inl refl)), (inr (inr (inr (inl refl))), (inr (inr (inr (inr (inr (inl refl))))), (inr (inr (inr (inr (inl refl)))), tt)))),
       ),
     )
 
-last_first_of : (octets : ArrayVec ℕ) → IsOrderOf (six_entries octets) last_first
-last_first_of octets = record {
-  whole = λ made among. to_last_first (line_of made) ((in_line_of octets).whole made among);
+last_exchanged_of : (octets : ArrayVec ℕ) → IsOrderOf (six_entries octets) last_exchanged
+last_exchanged_of octets = record {
+  whole = λ made among. to_last_exchanged (line_of made) ((in_line_of octets).whole made among);
   only = λ number among. (in_line_of octets).only number (to_in_line number among);
 }
 
@@ -275,22 +257,22 @@ in_line_admits who sample octets uplink is encodes =
     record {
       done = refl;
       allowed = record {
-        ordered = rising_is_ordered six_addresses (six_texts who sample octets uplink).readings 6 in_line six_rise;
+        ordered = rising_is_ordered six_addresses (six_texts who sample octets uplink).readings 5 in_line six_rise;
         lines = in_line_of octets;
       };
       acknowledged = record { acts = map act_of (six_entries octets); are_acts = acts; spelled = refl };
       silent = record { acts = map act_of (six_entries octets); are_acts = acts; spelled = refl };
     }
 
-last_first_admits : (who : Who) (sample : FlightSample) (octets : ArrayVec ℕ) (uplink : UplinkMessages) → uplink.messages.items ≡ emergency 1 ∷ []
+last_exchanged_admits : (who : Who) (sample : FlightSample) (octets : ArrayVec ℕ) (uplink : UplinkMessages) → uplink.messages.items ≡ emergency 1 ∷ []
     → EncodesUplink uplink octets.items
-    → Admits who sample (six_texts who sample octets uplink) last_first 5 4 (six_run who sample octets)
-last_first_admits who sample octets uplink is encodes =
-    let made = journal_of last_first (six_entries octets) in
+    → Admits who sample (six_texts who sample octets uplink) last_exchanged 5 4 (six_run who sample octets)
+last_exchanged_admits who sample octets uplink is encodes =
+    let made = journal_of last_exchanged (six_entries octets) in
     let acts = acts_of octets uplink is encodes sample made (have_octets octets) in
     record {
       done = refl;
-      allowed = record { ordered = last_first_ordered who sample octets uplink; lines = last_first_of octets };
+      allowed = record { ordered = last_exchanged_ordered who sample octets uplink; lines = last_exchanged_of octets };
       acknowledged = record { acts = map act_of made; are_acts = acts; spelled = refl };
       silent = record { acts = map act_of made; are_acts = acts; spelled = refl };
     }
@@ -298,5 +280,5 @@ last_first_admits who sample octets uplink is encodes =
 pub order_decides : OrderDecides
 order_decides who sample octets uplink is encodes = (
   (six_run who sample octets, six_texts_run who sample octets uplink in_line, in_line_admits who sample octets uplink is encodes),
-  (six_run who sample octets, six_texts_run who sample octets uplink last_first, last_first_admits who sample octets uplink is encodes),
+  (six_run who sample octets, six_texts_run who sample octets uplink last_exchanged, last_exchanged_admits who sample octets uplink is encodes),
 )

@@ -6,4 +6,5 @@ pub mod Written
 pub mod Lines
 pub mod BadLines
 pub mod Bursts
+pub mod NotAllowed
 pub mod Reuse

@@ -2,6 +2,7 @@
 -- a list of line numbers, those of the entries.
 use Rattle.std.specs.Prelude.{◌≡◌, ◌≢◌, ◌⊎◌, ◌<◌, ◌≤◌, ◌-◌, ◌%◌, ◌==◌, ℕ, Bool, true, false, List, [], ◌∷◌, filter, flat_map, map, Option, Some, None, option_and_then, slice_get}
 use Rattle.aircraft_core.specs.declared.entry.Entry.{Entry}
+use Rattle.aircraft_core.specs.declared.entry.Entry.TheVariants.{Uplink, Answer, Logon}
 use Rattle.aircraft_core.specs.Entries.{line_of}
 use Rattle.ground_texts.specs.declared.ground_text.GroundText.TheVariants as text
 use Rattle.net_script.specs.declared.line.ScriptLine.TheVariants as line
@@ -69,3 +70,17 @@ pub record IsOrderOf (made : List Entry) (order : List ℕ) : Type 0 where
 abbrev pub IsRising : List ℕ → Type 0
 IsRising [] = Unit {0}
 IsRising (first ∷ order) = ((number : ℕ) → IsAmong number order → first < number) × IsRising order
+
+-- One number stands before the other in the order.
+abbrev pub StandsBefore : ℕ → ℕ → List ℕ → Type 0
+StandsBefore one other [] = ⊥
+StandsBefore one other (first ∷ order) = ((first ≡ one) × IsAmong other order) ⊎ StandsBefore one other order
+
+-- ---- whose entries
+
+-- The link of an entry: that of an uplink, an answer and a logon; the entries of the flight have none.
+abbrev pub link_of : Entry → Option ℕ
+link_of (Uplink line link bytes) = Some link
+link_of (Answer line link code) = Some link
+link_of (Logon line link) = Some link
+link_of made = None

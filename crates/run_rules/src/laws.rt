@@ -1,6 +1,6 @@
 //! Laws of the definitions, as contracts of functions without a body.
 
-ghost use Rattle.run_rules.specs.Laws.{OneReading, OneScript, EachInputIsAScript, OneRun, OneOutput, JournalLineShowsOrder, EachScriptHasARun, RisingIsAllowed, OrdersAgree, WhatIsShownWasAccepted, FewAsksReuseNothing};
+ghost use Rattle.run_rules.specs.Laws.{OneReading, OneScript, EachInputIsAScript, OneRun, OneOutput, JournalLineShowsOrder, EachScriptHasARun, RisingIsAllowed, EachEntryStandsOnce, OrdersNameLines, LinkStandsInLine, WorkerStandsInLine, BurstsStandInLine, OneWorkerRises, OrdersAgree, WhatIsShownWasAccepted, FewAsksReuseNothing};
 ghost use Rattle.run_rules.specs.SentTexts.{SentMessageIsTaken};
 ghost use Rattle.run_rules.specs.Histories.Confirmed.{BringsTwice, Confirms};
 ghost use Rattle.run_rules.specs.Histories.Heads.{HeadAlone, HeadCutOff, LimitBehindHead, OtherLetter};
@@ -8,6 +8,7 @@ ghost use Rattle.run_rules.specs.Histories.Written.{ConfirmedIsWritten};
 ghost use Rattle.run_rules.specs.Histories.Lines.{AnswersAreRefused, BadLinesAreWritten, HappeningsTell, HeadLettersAreDue, HeadLinesStop, LogonsAreWritten, PlacesAreCounted, RefusedTextsAreWritten, RowsAreWritten};
 ghost use Rattle.run_rules.specs.Histories.BadLines.{NoLogon, NoSuchNumber, NothingToCancel, OtherRole, StillWaiting, UnlistedAddress};
 ghost use Rattle.run_rules.specs.Histories.Bursts.{OrderDecides};
+ghost use Rattle.run_rules.specs.Histories.NotAllowed.{AcrossACancel, AcrossATick, OfOneWorker};
 ghost use Rattle.run_rules.specs.Histories.Reuse.{OldDownlink, OldUplink, OtherRow};
 
 /// A line has at most one reading at its place: it isn't both bad and right, and it has one fault or says one thing. So an input is at
@@ -29,7 +30,20 @@ pub fn a_script_has_one_run()
     ensures output { OneOutput }
 {}
 
-/// The journal line of an output shows its order: of the numbers that lines of a script may have, no two lists have one journal line.
+/// What orders are allowed: the line of each entry stands in it once, and nothing else, so it is a list of numbers of the script's lines; the
+/// entries of one link stand in the order of their lines, and so do those of the links of one worker; entries that are not of one burst stand
+/// in the order of their lines; and with one worker the order rises.
+pub fn allowed_orders_keep_line_order()
+    ensures once { EachEntryStandsOnce }
+    ensures lines { OrdersNameLines }
+    ensures link { LinkStandsInLine }
+    ensures worker { WorkerStandsInLine }
+    ensures bursts { BurstsStandInLine }
+    ensures alone { OneWorkerRises }
+{}
+
+/// The journal line of an output shows its order: no two allowed orders have one journal line, be they of one script or of two, whatever stands
+/// behind it.
 pub fn a_journal_line_shows_its_order()
     ensures { JournalLineShowsOrder }
 {}
@@ -100,10 +114,18 @@ pub fn worked_lines()
     ensures tell { HappeningsTell }
 {}
 
-/// A worked burst: six ground addresses ask in one burst, and which of them isn't heard is decided by the order in which their texts are
-/// taken; both orders are allowed.
+/// A worked burst: six ground addresses ask in one burst, and which of them isn't heard is decided by the order in which five workers take
+/// their texts; both orders are allowed.
 pub fn worked_burst()
     ensures { OrderDecides }
+{}
+
+/// Worked orders that aren't allowed, and some that are: two texts may not be exchanged across a tick or a cancel, nor where one worker takes
+/// both.
+pub fn worked_orders()
+    ensures across_a_tick { AcrossATick }
+    ensures across_a_cancel { AcrossACancel }
+    ensures of_one_worker { OfOneWorker }
 {}
 
 /// Worked scripts in which a centre reuses a number too early, one for each of the three ways, and then shows a request as confirmed that

@@ -22,8 +22,9 @@ pub use end::End;
 pub use laws::{
     a_journal_line_shows_its_order, a_line_has_one_reading, a_rising_order_is_allowed,
     a_script_has_a_run_under_each_order, a_script_has_one_run, a_sent_message_is_taken,
-    each_input_is_a_script, few_asks_reuse_nothing, orders_agree, what_is_shown_was_accepted,
-    worked_bad_lines, worked_burst, worked_early_reuse, worked_heads, worked_lines, worked_scripts,
+    allowed_orders_keep_line_order, each_input_is_a_script, few_asks_reuse_nothing, orders_agree,
+    what_is_shown_was_accepted, worked_bad_lines, worked_burst, worked_early_reuse, worked_heads,
+    worked_lines, worked_orders, worked_scripts,
 };
 pub use reading::Reading;
 pub use refused::{RefusedLine, RefusedWhy};

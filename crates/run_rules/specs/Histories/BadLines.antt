@@ -1,20 +1,19 @@
 -- Worked scripts that end with a line that is bad by what stands before it, one for each cause.
-use Rattle.std.specs.Prelude.{◌≡◌, ℕ, List, [], ◌∷◌, Ok}
+use Rattle.std.specs.Prelude.{◌≡◌, ℕ, List, [], ◌∷◌}
 use Rattle.acars_envelope.specs.Names.{IsFlight, IsRegistration}
 use Rattle.adsc_requests.specs.declared.kind.Kind.TheVariants as kinds
 use Rattle.adsc_requests.specs.declared.message.Uplink.{Uplink}
 use Rattle.aircraft_core.specs.declared.who.Who.{Who}
 use Rattle.arrayvec.specs.ArrayVec.{ArrayVec}
 use Rattle.flight_samples.specs.declared.sample.Sample.{Sample as FlightSample}
-use Rattle.ground_texts.specs.declared.ground_text.GroundText.TheVariants as text
 use Rattle.net_script.specs.declared.line.Cancel.TheVariants.{Of}
 use Rattle.net_script.specs.declared.line.ScriptLine.TheVariants as line
 use Rattle.net_script.specs.declared.refusal.Code.{Code}
 use Rattle.net_script.specs.declared.refusal.Code.TheVariants as code
-use Rattle.run_rules.specs.Histories.Words.{RunsTo, asks, brings, cancels, flight_of, ground, logs_on, receives, unlisted}
+use Rattle.run_rules.specs.Histories.Words.{RunsTo, asks, brings, cancels, flight_of, ground, logs_on, receives, sends, unlisted}
 use Rattle.run_rules.specs.declared.end.End.TheVariants.{Bad}
 use Rattle.run_rules.specs.declared.reading.Reading.{Reading}
-use Rattle.run_rules.specs.declared.reading.Reading.TheVariants.{Brings, Says}
+use Rattle.run_rules.specs.declared.reading.Reading.TheVariants.{Says}
 
 -- A script whose lines behind the head are these ends with this line, which is bad by this code with this value.
 abbrev pub EndsBad : Who → FlightSample → List Reading → List ℕ → ℕ → Code → ℕ → Type 0
@@ -35,8 +34,7 @@ UnlistedAddress = AlwaysEndsBad (Says (line.L unlisted) ∷ []) [] 4 code.Addres
 abbrev pub OtherRole : Type 0
 OtherRole = (who : Who) (sample : FlightSample) (uplink : Uplink) (octets : ArrayVec ℕ)
     → EndsBad who sample
-    (Brings (text.Ads (record { address = ground; registration = who.registration; octets = octets; asked = Ok uplink })) ∷ asks ∷ []) (4 ∷ []) 5
-    code.Role 0
+    (sends who octets uplink ground ∷ asks ∷ []) (4 ∷ []) 5 code.Role 0
 
 -- A message is to be brought where none was sent; a downlink, where there is none.
 abbrev pub NoSuchNumber : Type 0

@@ -1,16 +1,19 @@
 -- The words of worked scripts. A script is given by what its lines say; the requests are those of RTCA DO-258A / EUROCAE ED-100A.
-use Rattle.std.specs.Prelude.{ℕ, false, List, [], ◌∷◌, ◌++◌, codes, None, refl}
+use Rattle.std.specs.Prelude.{ℕ, false, List, [], ◌∷◌, ◌++◌, codes, None, Ok, refl}
 use Rattle.adsc_requests.specs.declared.message.Message.{Message}
 use Rattle.adsc_requests.specs.declared.message.Message.TheVariants as message
+use Rattle.adsc_requests.specs.declared.message.Uplink.{Uplink}
 use Rattle.aircraft_core.specs.Setting.{Setting}
 use Rattle.aircraft_core.specs.declared.who.Who.{Who}
+use Rattle.arrayvec.specs.ArrayVec.{ArrayVec}
 use Rattle.flight_samples.specs.declared.sample.Sample.{Sample as FlightSample}
+use Rattle.ground_texts.specs.declared.ground_text.GroundText.TheVariants as text
 use Rattle.net_script.specs.declared.line.Cancel.{Cancel}
 use Rattle.net_script.specs.declared.line.ScriptLine.TheVariants as line
 use Rattle.run_rules.specs.Runs.{Run, Script, ScriptRun}
 use Rattle.run_rules.specs.Stages.{setting_with}
 use Rattle.run_rules.specs.declared.reading.Reading.{Reading}
-use Rattle.run_rules.specs.declared.reading.Reading.TheVariants.{Says}
+use Rattle.run_rules.specs.declared.reading.Reading.TheVariants.{Brings, Says}
 
 -- ---- addresses and requests
 
@@ -51,6 +54,11 @@ brings place = Says (line.B ground place)
 -- The downlink at this place is brought to the centre.
 abbrev pub receives : ℕ → Reading
 receives place = Says (line.R ground place)
+
+-- A text of the address with these octets for this aircraft, which are read as this uplink.
+abbrev pub sends : Who → ArrayVec ℕ → Uplink → List ℕ → Reading
+sends who octets uplink address =
+    Brings (text.Ads (record { address = address; registration = who.registration; octets = octets; asked = Ok uplink }))
 
 -- ---- runs
 
