@@ -15,12 +15,16 @@ use Rattle.contract_rules.specs.Acts.{Act, Said}
 use Rattle.contract_rules.specs.Due.{Acknowledgement}
 use Rattle.contract_table.specs.Acts.{rules_message}
 use Rattle.flight_samples.specs.declared.sample.Sample.{Sample as FlightSample}
-use Rattle.hex.specs.Hex.{encode_upper}
+use Rattle.std.specs.Fmt.{digits}
+use Rattle.adsc_requests.specs.Contents.{collected, report_octets}
+use Rattle.adsc_requests.specs.Grammar.{message_octets}
+use Rattle.adsc_requests.specs.Tables.{is_modulus_tag}
+use Rattle.hex.specs.Hex.{encode_with}
 use Rattle.run_rules.specs.Happenings.{Happening, Asked, Brought, Entered, Heard}
 use Rattle.run_rules.specs.Histories.Confirmed.{BringsTwice, Confirms, confirming}
 use Rattle.run_rules.specs.Histories.Written.{ConfirmedIsWritten}
 use Rattle.run_rules.specs.Histories.Words.{aircraft_of, emergency, ground}
-use Rattle.run_rules.specs.Output.{AreLinkLines, centre_lines, downlink_lines, journal_line, logon_line}
+use Rattle.run_rules.specs.Output.{AreLinkLines, centre_lines, downlink_lines, logon_line}
 use Rattle.run_rules.specs.Runs.{Run, ScriptRun, ended_run}
 use Rattle.run_rules.specs.Stages.{flying}
 use Rattle.run_rules.specs.declared.end.End.TheVariants.{Done}
@@ -110,6 +114,7 @@ laid_out : (a b c d e f g h k : List ℕ) → a ++ (b ++ (c ++ (d ++ (e ++ (f ++
 laid_out a b c d e f g h k = simp (append_assoc, append-nil) refl
 
 pub confirmed_is_written : ConfirmedIsWritten
+unfolding digits encode_with message_octets collected report_octets is_modulus_tag
 confirmed_is_written who sample registration flight = (
   confirmed_run who sample,
   confirming_runs who sample registration flight,
@@ -123,9 +128,9 @@ confirmed_is_written who sample registration flight = (
       refl,
     );
     spelled =
-        laid_out (journal_line (4 ∷ 6 ∷ 8 ∷ [])) (ended (codes "L,GRND001,accepted")) (ended (codes "D," ++ contact_text_of who sample))
+        laid_out (ended (codes "J,4,6,8")) (ended (codes "L,GRND001,accepted")) (ended (codes "D," ++ contact_text_of who sample))
         (ended (codes "D," ++ ack_text_of who sample)) (ended (codes "C,GRND001,D,none")) (ended (codes "C,GRND001,P,none"))
-        (ended (codes "C,GRND001,V,none")) (ended (codes "C,GRND001,M,confirmed," ++ encode_upper (message_payload (emergency 1))))
+        (ended (codes "C,GRND001,V,none")) (ended (codes "C,GRND001,M,confirmed,0901"))
         (ended (codes "OK"));
   },
 )

@@ -1,52 +1,64 @@
 -- Single lines of an output, and what single happenings tell: by computation.
 use Rattle.std.proofs.Common.{◌≡◌, ℕ, ◌+◌, List, [], ◌∷◌, ◌++◌, length, refl, ap, ◌∙◌, arith}
 use Rattle.std.proofs.lemmas.List.{length-append}
+use Rattle.std.specs.Fmt.{digits}
 use Rattle.std.specs.Prelude.{codes, if◌then◌else◌}
+use Rattle.adsc_requests.specs.Contents.{collected, report_octets}
+use Rattle.adsc_requests.specs.Grammar.{message_octets}
+use Rattle.adsc_requests.specs.Tables.{is_modulus_tag}
 use Rattle.aircraft_core.specs.declared.entry.Entry.TheVariants.{Answer}
+use Rattle.hex.specs.Hex.{encode_with}
 use Rattle.run_rules.specs.Happenings.{Entered}
-use Rattle.run_rules.specs.Histories.Lines.{AnswersAreRefused, BadLinesAreWritten, HappeningsTell, HeadLettersAreDue, HeadLinesStop, LogonsAreWritten, PlacesAreCounted, RefusedTextsAreWritten, RowsAreWritten}
+use Rattle.run_rules.specs.Histories.Lines.{AnswersAreRefused, BadLinesAreWritten, HappeningsTell, HeadLettersAreDue, HeadLinesStop, JournalsAreWritten, LimitIsWritten, LogonsAreWritten, PlacesAreCounted, RefusedTextsAreWritten, RowsAreWritten}
 use Rattle.run_rules.specs.Texts.{flight_place, refuses, takes}
 use Rattle.run_rules.specs.declared.refused.RefusedWhy.TheVariants as why
 
+pub journals_are_written : JournalsAreWritten
+unfolding digits
+journals_are_written = record { empty = refl; three = refl; other = refl }
+
 pub logons_are_written : LogonsAreWritten
-logons_are_written = record { nothing = refl; sent = refl; accepted = refl; rejected = λ found. refl }
+unfolding digits
+logons_are_written = record { nothing = refl; sent = refl; accepted = refl; rejected = refl; downlinks = refl }
 
 pub refused_texts_are_written : RefusedTextsAreWritten
-refused_texts_are_written = record {
-  envelope = λ number fault. refl;
-  unknown = λ number. refl;
-  text = λ number place. refl;
-  other = λ number place. refl;
-  bits = λ number refusal. refl;
-}
+unfolding digits encode_with
+refused_texts_are_written = record { place = refl; check = refl; unknown = refl; text = refl; other = refl; bits = refl }
 
 pub rows_are_written : RowsAreWritten
+unfolding digits encode_with message_octets collected report_octets is_modulus_tag
 rows_are_written = record {
   nothing = refl;
-  pending = λ request. refl;
-  confirmed = λ request. refl;
-  partial = λ request. refl;
-  refused = λ request reason. refl;
-  cancelling = λ request. refl;
-  links = λ one other log. refl;
+  event = refl;
+  pending = refl;
+  confirmed = refl;
+  partial = refl;
+  refused = refl;
+  cancelling = refl;
+  links = refl;
 }
 
 pub bad_lines_are_written : BadLinesAreWritten
+unfolding digits
 bad_lines_are_written = record {
-  head = λ number value. refl;
-  kind = λ number value. refl;
-  byte = λ number value. refl;
-  count = λ number value. refl;
-  field = λ number value. refl;
-  twice = λ number value. refl;
-  address = λ number value. refl;
-  role = λ number value. refl;
-  number = λ number value. refl;
-  logon = λ number value. refl;
-  waiting = λ number value. refl;
-  nothing = λ number value. refl;
-  long = λ number value. refl;
+  long = refl;
+  head = refl;
+  kind = refl;
+  byte = refl;
+  count = refl;
+  field = refl;
+  twice = refl;
+  address = refl;
+  role = refl;
+  number = refl;
+  logon = refl;
+  waiting = refl;
+  nothing = refl;
 }
+
+pub limit_is_written : LimitIsWritten
+unfolding digits
+limit_is_written order run = refl
 
 pub places_are_counted : PlacesAreCounted
 places_are_counted = record { registration = refl; characters = refl; flight = refl }

@@ -5,7 +5,7 @@ ghost use Rattle.run_rules.specs.SentTexts.{SentMessageIsTaken};
 ghost use Rattle.run_rules.specs.Histories.Confirmed.{BringsTwice, Confirms};
 ghost use Rattle.run_rules.specs.Histories.Heads.{HeadAlone, HeadCutOff, LimitBehindHead, OtherLetter};
 ghost use Rattle.run_rules.specs.Histories.Written.{ConfirmedIsWritten};
-ghost use Rattle.run_rules.specs.Histories.Lines.{AnswersAreRefused, BadLinesAreWritten, HappeningsTell, HeadLettersAreDue, HeadLinesStop, LogonsAreWritten, PlacesAreCounted, RefusedTextsAreWritten, RowsAreWritten};
+ghost use Rattle.run_rules.specs.Histories.Lines.{AnswersAreRefused, BadLinesAreWritten, HappeningsTell, HeadLettersAreDue, HeadLinesStop, JournalsAreWritten, LimitIsWritten, LogonsAreWritten, PlacesAreCounted, RefusedTextsAreWritten, RowsAreWritten};
 ghost use Rattle.run_rules.specs.Histories.BadLines.{NoLogon, NoSuchNumber, NothingToCancel, OtherRole, StillWaiting, UnlistedAddress};
 ghost use Rattle.run_rules.specs.Histories.Bursts.{OrderDecides};
 ghost use Rattle.run_rules.specs.Histories.NotAllowed.{AcrossACancel, AcrossATick, OfOneWorker};
@@ -103,10 +103,12 @@ pub fn worked_bad_lines()
 /// Single lines of an output, one of each form, come out as they are written, places in texts are where the parts of a text begin, the
 /// head has its letters and they stop a run behind it, and single happenings tell what they should.
 pub fn worked_lines()
+    ensures journals { JournalsAreWritten }
     ensures logons { LogonsAreWritten }
     ensures refused { RefusedTextsAreWritten }
     ensures rows { RowsAreWritten }
     ensures bad { BadLinesAreWritten }
+    ensures limit { LimitIsWritten }
     ensures places { PlacesAreCounted }
     ensures letters { HeadLettersAreDue }
     ensures head { HeadLinesStop }

@@ -1,11 +1,11 @@
 -- What single lines of an output are, one of each form, and what single happenings tell. The output is this project's profile; places in
 -- texts are those of ARINC 622.
-use Rattle.std.specs.Prelude.{◌≡◌, ℕ, Option, cond, true, false, List, [], ◌∷◌, ◌++◌, codes, length, Some, None}
+use Rattle.std.specs.Prelude.{◌≡◌, ℕ, Option, true, false, List, [], ◌∷◌, ◌++◌, codes, flat_map, length, Some, None}
 use Rattle.adsc_io.specs.Lines.{ended}
-use Rattle.acars_envelope.specs.declared.refusal.EnvelopeRefusal.{EnvelopeRefusal}
+use Rattle.acars_envelope.specs.declared.refusal.EnvelopeWhy.TheVariants as envelope
 use Rattle.adsc_requests.specs.declared.kind.Kind.TheVariants.{Demand, Periodic, Event, Emergency}
-use Rattle.adsc_requests.specs.declared.message.Message.{Message}
-use Rattle.adsc_requests.specs.declared.refusal.Refusal.{Refusal}
+use Rattle.adsc_requests.specs.declared.kind.Kind.{Kind}
+use Rattle.adsc_requests.specs.declared.message.Message.TheVariants as message
 use Rattle.afn_logon.specs.declared.answer.Answer.{Answer as LogonAnswer}
 use Rattle.afn_logon.specs.declared.logon.Logon.TheVariants.{Nothing, Sent, Accepted, Rejected}
 use Rattle.aircraft_core.specs.Setting.{Setting}
@@ -13,83 +13,97 @@ use Rattle.aircraft_core.specs.declared.entry.Entry.TheVariants as entry
 use Rattle.aircraft_core.specs.declared.who.Who.{Who}
 use Rattle.net_script.specs.Addresses.{AddressList}
 use Rattle.centre_core.specs.Hearing.{Hearing}
-use Rattle.centre_core.specs.Sending.{message_payload}
+use Rattle.centre_core.specs.declared.shown.Shown.{Shown}
 use Rattle.centre_core.specs.declared.shown.Shown.TheVariants as shown
 use Rattle.ground_texts.specs.declared.ground_text.GroundText.{GroundText}
-use Rattle.hex.specs.Hex.{encode_upper}
+use Rattle.net_script.specs.declared.line.Cancel.TheVariants.{All}
 use Rattle.net_script.specs.declared.letter.Letter.TheVariants.{Aircraft, Ground, Sample}
 use Rattle.net_script.specs.declared.line.ScriptLine.TheVariants as line
 use Rattle.net_script.specs.declared.refusal.Code.{Code}
 use Rattle.net_script.specs.declared.refusal.Code.TheVariants as code
-use Rattle.output_fields.specs.Fields.{number_field}
-use Rattle.output_fields.specs.Faults.{envelope_fault_fields, request_fault_fields}
-use Rattle.run_rules.specs.Happenings.{Happening, Refused, Heard, is_centre, is_text_on, refused_lines}
+use Rattle.run_rules.specs.Happenings.{Happening, Cancelled, Refused, Heard, is_centre, is_text_on, refused_lines}
 use Rattle.run_rules.specs.EarlierLines.{text_link}
+use Rattle.run_rules.specs.Histories.Reuse.{periodic, timed}
+use Rattle.run_rules.specs.Histories.Words.{emergency}
 use Rattle.run_rules.specs.Lines.{flight_step, step_of}
 use Rattle.run_rules.specs.Orders.{is_burst_line}
-use Rattle.run_rules.specs.Output.{bad_line, centre_lines, centres_lines, logon_line, refused_line, row_line}
+use Rattle.run_rules.specs.Output.{IsEndText, bad_line, centres_lines, downlink_lines, journal_line, logon_line, refused_line, row_line}
 use Rattle.run_rules.specs.Places.{head_letter}
+use Rattle.run_rules.specs.Runs.{Run}
 use Rattle.run_rules.specs.Stages.{begun, stops}
 use Rattle.run_rules.specs.Texts.{answer_step, characters_place, flight_place, refuses, registration_place, same_text}
+use Rattle.run_rules.specs.declared.end.End.TheVariants.{Limit}
 use Rattle.run_rules.specs.declared.reading.Reading.TheVariants.{Brings, Says}
 use Rattle.run_rules.specs.declared.refused.RefusedLine.{RefusedLine}
+use Rattle.run_rules.specs.declared.refused.RefusedWhy.{RefusedWhy}
 use Rattle.run_rules.specs.declared.refused.RefusedWhy.TheVariants as why
 
--- The four states of a logon.
+-- The journal line: no entry, three, and three that were taken in another order than that of their lines.
+pub record JournalsAreWritten : Type 0 where
+  pub empty : journal_line [] ≡ ended (codes "J")
+  pub three : journal_line (4 ∷ 6 ∷ 8 ∷ []) ≡ ended (codes "J,4,6,8")
+  pub other : journal_line (10 ∷ 9 ∷ 200000 ∷ []) ≡ ended (codes "J,10,9,200000")
+
+-- The four states of a logon; and two downlinks.
 pub record LogonsAreWritten : Type 0 where
   pub nothing : logon_line (codes "GRND001") Nothing ≡ ended (codes "L,GRND001,none")
   pub sent : logon_line (codes "GRND001") Sent ≡ ended (codes "L,GRND001,sent")
   pub accepted : logon_line (codes "GRND001") Accepted ≡ ended (codes "L,GRND001,accepted")
-  pub rejected : (found : ℕ) → logon_line (codes "GRND001") (Rejected found) ≡ ended (codes "L,GRND001,rejected" ++ number_field found)
+  pub rejected : logon_line (codes "GRND001") (Rejected 3) ≡ ended (codes "L,GRND001,rejected,3")
+  pub downlinks : downlink_lines (codes "/GRND001.ADS" ∷ codes "/GRND001.AFN" ∷ []) ≡ ended (codes "D,/GRND001.ADS") ++ ended (codes "D,/GRND001.AFN")
 
--- The five reasons to refuse a text.
+-- A text that is refused so is written so.
+abbrev pub IsRefusedWritten : ℕ → RefusedWhy → List ℕ → Type 0
+IsRefusedWritten number why text = refused_line (record { line = number; why = why }) ≡ ended text
+
+-- The five reasons to refuse a text; an envelope by its place, or by a wrong check.
 pub record RefusedTextsAreWritten : Type 0 where
-  pub envelope : (number : ℕ) (fault : EnvelopeRefusal) → refused_line (record { line = number; why = why.Envelope fault })
-      ≡ ended (codes "X" ++ number_field number ++ codes "," ++ envelope_fault_fields fault)
-  pub unknown : (number : ℕ) → refused_line (record { line = number; why = why.UnknownAddress }) ≡ ended (codes "X" ++ number_field number ++ codes "," ++ codes "UNKNOWN,1")
-  pub text : (number place : ℕ) → refused_line (record { line = number; why = why.Afn place })
-      ≡ ended (codes "X" ++ number_field number ++ codes "," ++ (codes "TEXT" ++ number_field place))
-  pub other : (number place : ℕ) → refused_line (record { line = number; why = why.OtherRegistration place })
-      ≡ ended (codes "X" ++ number_field number ++ codes "," ++ (codes "OTHER" ++ number_field place))
-  pub bits : (number : ℕ) (refusal : Refusal) → refused_line (record { line = number; why = why.Bits refusal })
-      ≡ ended (codes "X" ++ number_field number ++ codes "," ++ request_fault_fields refusal)
+  pub place : IsRefusedWritten 5 (why.Envelope (record { place = 23; why = envelope.Hex })) (codes "X,5,HEX,23")
+  pub check : IsRefusedWritten 4 (why.Envelope (record { place = 24; why = envelope.Check 0xbd4e 0xbd4f })) (codes "X,4,CHECK,BD4E,BD4F")
+  pub unknown : IsRefusedWritten 6 why.UnknownAddress (codes "X,6,UNKNOWN,1")
+  pub text : IsRefusedWritten 7 (why.Afn 12) (codes "X,7,TEXT,12")
+  pub other : IsRefusedWritten 12 (why.OtherRegistration 21) (codes "X,12,OTHER,21")
+  pub bits : IsRefusedWritten 8 (why.Bits (record { bit = 32; reason = 2; number = 1; octet = 5 })) (codes "X,8,REASON-2,32")
 
--- The six places where a request may stand, and the four kinds; and the lines of two links, of which each is a centre's or isn't.
+-- The row of this kind is written so.
+abbrev pub IsRowWritten : Kind → Shown → List ℕ → Type 0
+IsRowWritten kind row text = row_line (codes "GRND001") kind row ≡ ended text
+
+-- The six places where a request may stand, and the four kinds; and the lines of two links, of which one alone is a centre's.
 pub record RowsAreWritten : Type 0 where
-  pub nothing : row_line (codes "GRND001") Demand shown.Nothing ≡ ended (codes "C,GRND001,D,none")
-  pub pending : (request : Message) → row_line (codes "GRND001") Periodic (shown.Pending request)
-      ≡ ended (codes "C,GRND001,P,pending," ++ encode_upper (message_payload request))
-  pub confirmed : (request : Message) → row_line (codes "GRND001") Event (shown.Confirmed request)
-      ≡ ended (codes "C,GRND001,V,confirmed," ++ encode_upper (message_payload request))
-  pub partial : (request : Message) → row_line (codes "GRND001") Emergency (shown.Partial request)
-      ≡ ended (codes "C,GRND001,M,partial," ++ encode_upper (message_payload request))
-  pub refused : (request : Message) (reason : ℕ) → row_line (codes "GRND001") Demand (shown.Refused request reason)
-      ≡ ended (codes "C,GRND001,D,refused" ++ (number_field reason ++ (codes "," ++ encode_upper (message_payload request))))
-  pub cancelling : (request : Message) → row_line (codes "GRND001") Periodic (shown.Cancelling request)
-      ≡ ended (codes "C,GRND001,P,cancelling," ++ encode_upper (message_payload request))
-  pub links : (one other : List ℕ) (log : List Happening) → centres_lines log 0 (one ∷ other ∷ [])
-      ≡ cond (is_centre 0 log) (centre_lines one 0 log) [] ++ (cond (is_centre 1 log) (centre_lines other 1 log) [] ++ [])
+  pub nothing : IsRowWritten Demand shown.Nothing (codes "C,GRND001,D,none")
+  pub event : IsRowWritten Event shown.Nothing (codes "C,GRND001,V,none")
+  pub pending : IsRowWritten Periodic (shown.Pending (periodic 1)) (codes "C,GRND001,P,pending,07010BA5")
+  pub confirmed : IsRowWritten Emergency (shown.Confirmed (emergency 2)) (codes "C,GRND001,M,confirmed,0902")
+  pub partial : IsRowWritten Periodic (shown.Partial (periodic 254)) (codes "C,GRND001,P,partial,07FE0BA5")
+  pub refused : IsRowWritten Periodic (shown.Refused (periodic 3) 11) (codes "C,GRND001,P,refused,11,07030BA5")
+  pub cancelling : IsRowWritten Emergency (shown.Cancelling (timed 4)) (codes "C,GRND001,M,cancelling,09040BA5")
+  pub links : centres_lines (Cancelled 4 1 All message.CancelAll ∷ []) 0 (codes "GRND001" ∷ codes "GRND002" ∷ [])
+      ≡ flat_map ended (codes "C,GRND002,D,none" ∷ codes "C,GRND002,P,none" ∷ codes "C,GRND002,V,none" ∷ codes "C,GRND002,M,none" ∷ [])
 
--- A bad line of this code is written so.
-abbrev pub IsBadWritten : Code → List ℕ → Type 0
-IsBadWritten found text = (number value : ℕ) → bad_line (record { line = number; code = found; value = value })
-    ≡ ended (codes "BAD" ++ number_field number ++ codes "," ++ text ++ number_field value)
+-- A line that is bad by this code with this value is written so.
+abbrev pub IsBadWritten : ℕ → Code → ℕ → List ℕ → Type 0
+IsBadWritten number found value text = bad_line (record { line = number; code = found; value = value }) ≡ ended text
 
 -- The thirteen codes of a bad line.
 pub record BadLinesAreWritten : Type 0 where
-  pub head : IsBadWritten code.Head (codes "HEAD")
-  pub kind : IsBadWritten code.Kind (codes "KIND")
-  pub byte : IsBadWritten code.Byte (codes "BYTE")
-  pub count : IsBadWritten code.Count (codes "COUNT")
-  pub field : IsBadWritten code.Field (codes "FIELD")
-  pub twice : IsBadWritten code.Twice (codes "TWICE")
-  pub address : IsBadWritten code.Address (codes "ADDRESS")
-  pub role : IsBadWritten code.Role (codes "ROLE")
-  pub number : IsBadWritten code.Number (codes "NUMBER")
-  pub logon : IsBadWritten code.Logon (codes "LOGON")
-  pub waiting : IsBadWritten code.Waiting (codes "WAITING")
-  pub nothing : IsBadWritten code.Nothing (codes "NOTHING")
-  pub long : IsBadWritten code.Long (codes "LONG")
+  pub long : IsBadWritten 4 code.Long 4096 (codes "BAD,4,LONG,4096")
+  pub head : IsBadWritten 1 code.Head 0 (codes "BAD,1,HEAD,0")
+  pub kind : IsBadWritten 200000 code.Kind 0 (codes "BAD,200000,KIND,0")
+  pub byte : IsBadWritten 7 code.Byte 15 (codes "BAD,7,BYTE,15")
+  pub count : IsBadWritten 8 code.Count 26 (codes "BAD,8,COUNT,26")
+  pub field : IsBadWritten 4 code.Field 1 (codes "BAD,4,FIELD,1")
+  pub twice : IsBadWritten 2 code.Twice 2 (codes "BAD,2,TWICE,2")
+  pub address : IsBadWritten 10 code.Address 1 (codes "BAD,10,ADDRESS,1")
+  pub role : IsBadWritten 11 code.Role 0 (codes "BAD,11,ROLE,0")
+  pub number : IsBadWritten 5 code.Number 1 (codes "BAD,5,NUMBER,1")
+  pub logon : IsBadWritten 4 code.Logon 0 (codes "BAD,4,LOGON,0")
+  pub waiting : IsBadWritten 9 code.Waiting 255 (codes "BAD,9,WAITING,255")
+  pub nothing : IsBadWritten 6 code.Nothing 0 (codes "BAD,6,NOTHING,0")
+
+-- The line of a run that ends at the limit.
+abbrev pub LimitIsWritten : Type 0
+LimitIsWritten = (order : List ℕ) (run : Run) → IsEndText order run (Limit 200001) (ended (codes "LIMIT,200001"))
 
 -- The places in a text are where its parts begin.
 pub record PlacesAreCounted : Type 0 where
