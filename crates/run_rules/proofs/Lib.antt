@@ -12,6 +12,7 @@ pub mod EachRun
 pub mod EarlierLines
 pub mod FewAsks
 pub mod FewLinks
+pub mod FirstFaults
 pub mod GoingOn
 pub mod Heads
 pub mod HeardItems

@@ -47,8 +47,8 @@ RisingIsAllowed = (bytes : List ℕ) (script : Script) → IsScript bytes script
 
 -- ---- allowed orders
 
--- In an order in which so many workers may take the entries of a script the line of each entry stands once, and nothing else: the order is
--- as long as there are entries.
+-- In an order in which so many workers may take the entries of a script the line of each entry stands once, and
+-- nothing else: the order is as long as there are entries.
 pub record HoldsEachOnce (made : List Entry) (order : List ℕ) : Type 0 where
   pub once : (entry : Entry) → IsAmong entry made → count_by (λ number. number == line_of entry) order ≡ 1
   pub no_more : length order ≡ length made
@@ -64,24 +64,27 @@ StandInLine order one other = line_of one < line_of other → StandsBefore (line
 -- It is so of any two entries of a run for which this holds, in each order in which so many workers may take them.
 abbrev pub AlwaysStandInLine : (Script → ℕ → Entry → Entry → Type 0) → Type 0
 AlwaysStandInLine Holds =
-    (script : Script) (order : List ℕ) (run : Run) (workers : ℕ) → ScriptRun script order run → IsAllowedOrder script run workers order
-    → (one other : Entry) → IsAmong one (entries run.log) → IsAmong other (entries run.log) → Holds script workers one other
-    → StandInLine order one other
+    (script : Script) (order : List ℕ) (run : Run) (workers : ℕ) → ScriptRun script order run
+    → IsAllowedOrder script run workers order → (one other : Entry) → IsAmong one (entries run.log)
+    → IsAmong other (entries run.log) → Holds script workers one other → StandInLine order one other
 
 -- Two entries of one link.
 abbrev pub LinkStandsInLine : Type 0
-LinkStandsInLine = AlwaysStandInLine (λ script workers one other. (link : ℕ) × (link_of one ≡ Some link) × (link_of other ≡ Some link))
+LinkStandsInLine = AlwaysStandInLine (λ script workers one other.
+    (link : ℕ) × (link_of one ≡ Some link) × (link_of other ≡ Some link))
 
 -- Two entries of links of one worker, by the remainder of the link.
 abbrev pub WorkerStandsInLine : Type 0
 WorkerStandsInLine = AlwaysStandInLine (λ script workers one other.
-    (link : ℕ) × (another : ℕ) × (link_of one ≡ Some link) × (link_of other ≡ Some another) × (link % workers ≡ another % workers))
+    (link : ℕ) × (another : ℕ) × (link_of one ≡ Some link) × (link_of other ≡ Some another)
+    × (link % workers ≡ another % workers))
 
--- Two entries that are not of one burst: a line from the one to the other, be it one of the two, is no line of a burst. So are entries of
--- two bursts, an entry of a burst and one of the flight, and two of the flight.
+-- Two entries that are not of one burst: a line from the one to the other, be it one of the two, is no line of a
+-- burst. So are entries of two bursts, an entry of a burst and one of the flight, and two of the flight.
 abbrev pub BurstsStandInLine : Type 0
 BurstsStandInLine = AlwaysStandInLine (λ script workers one other.
-    (number : ℕ) × (line_of one ≤ number) × (number ≤ line_of other) × (is_burst_line (reading_at script.readings number) ≡ false))
+    (number : ℕ) × (line_of one ≤ number) × (number ≤ line_of other)
+    × (is_burst_line (reading_at script.readings number) ≡ false))
 
 -- With one worker the order rises.
 abbrev pub OneWorkerRises : Type 0
@@ -101,10 +104,11 @@ abbrev pub OrdersNameLines : Type 0
 OrdersNameLines = (bytes order : List ℕ) → IsTakingOrder bytes order
     → (number : ℕ) → IsAmong number order → (1 ≤ number) × (number ≤ length (lines_before_limit bytes))
 
--- And its journal line shows it: of two such orders, be they of one script or of two, that have one journal line, whatever stands behind it,
--- both are one.
+-- And its journal line shows it: of two such orders, be they of one script or of two, that have one journal line,
+-- whatever stands behind it, both are one.
 abbrev pub JournalLineShowsOrder : Type 0
-JournalLineShowsOrder = (bytes others order other_order behind rest : List ℕ) → IsTakingOrder bytes order → IsTakingOrder others other_order
+JournalLineShowsOrder = (bytes others order other_order behind rest : List ℕ) → IsTakingOrder bytes order
+    → IsTakingOrder others other_order
     → journal_line order ++ behind ≡ journal_line other_order ++ rest → order ≡ other_order
 
 -- ---- orders that agree
@@ -114,19 +118,21 @@ abbrev pub DifferInJournalLine : List ℕ → List ℕ → List ℕ → List ℕ
 DifferInJournalLine order other_order text other_text =
     (behind : List ℕ) × (text ≡ journal_line order ++ behind) × (other_text ≡ journal_line other_order ++ behind)
 
--- Two runs, each under an order of its own, agree. They are one run: the same happened, so the same texts were refused and each centre has
--- the same rows; and they end alike. Each link has the same downlinks and the same logon state. So what is written is the same but for the
--- journal line.
+-- Two runs, each under an order of its own, agree. They are one run: the same happened, so the same texts were
+-- refused and each centre has the same rows; and they end alike. Each link has the same downlinks and the same logon
+-- state. So what is written is the same but for the journal line.
 pub record RunsAgree (order other_order : List ℕ) (run other : Run) : Type 0 where
   pub same : run ≡ other
   pub downlinks : (setting : Setting) → run.setting ≡ Some setting → (link : ℕ) (texts : List (List ℕ))
-      → AreDownlinks setting (journal_at order run.log) link texts ↔ AreDownlinks setting (journal_at other_order other.log) link texts
-  pub logons : (link : ℕ) → logon_state link (journal_at order run.log) ≡ logon_state link (journal_at other_order other.log)
+      → AreDownlinks setting (journal_at order run.log) link texts
+      ↔ AreDownlinks setting (journal_at other_order other.log) link texts
+  pub logons : (link : ℕ)
+      → logon_state link (journal_at order run.log) ≡ logon_state link (journal_at other_order other.log)
   pub output : (text other_text : List ℕ) → IsRunText order run text → IsRunText other_order other other_text
       → DifferInJournalLine order other_order text other_text
 
--- With at most five ground addresses the runs of a script agree under whatever two allowed orders, each for a number of workers of its
--- own, with a kept connection too.
+-- With at most five ground addresses the runs of a script agree under whatever two allowed orders, each for a number
+-- of workers of its own, with a kept connection too.
 abbrev pub OrdersAgree : Type 0
 OrdersAgree = (bytes : List ℕ) (script : Script) (workers others : ℕ) (order other_order : List ℕ) (run other : Run)
     → IsScript bytes script → length (addresses_in run.setting) ≤ 5
@@ -136,8 +142,9 @@ OrdersAgree = (bytes : List ℕ) (script : Script) (workers others : ℕ) (order
 
 -- ---- confirmed contracts
 
--- What a centre shows confirmed or partial at the end of a run, however it ends, was accepted by the aircraft, with those parameters,
--- unless the centre reused a number too early: for every number of workers, and every allowed order.
+-- What a centre shows confirmed or partial at the end of a run, however it ends, was accepted by the aircraft, with
+-- those parameters, unless the centre reused a number too early: for every number of workers, and every allowed
+-- order.
 abbrev pub WhatIsShownWasAccepted : Type 0
 WhatIsShownWasAccepted = (bytes : List ℕ) (script : Script) (order : List ℕ) (run : Run) (workers : ℕ) (setting : Setting) (link : ℕ) (request : Message)
     → IsScript bytes script → ScriptRun script order run → IsAllowedOrder script run workers order

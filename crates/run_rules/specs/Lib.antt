@@ -10,6 +10,7 @@ pub mod Runs
 pub mod Output
 pub mod Claims
 pub mod Laws
+pub mod FaultTable
 pub mod EarlierLines
 pub mod SentTexts
 pub mod Histories

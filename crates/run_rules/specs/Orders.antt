@@ -1,5 +1,5 @@
--- In which order the entries of a script may be taken into the journal, by a number of workers (this project's profile). An order is
--- a list of line numbers, those of the entries.
+-- In which order the entries of a script may be taken into the journal, by a number of workers (this project's
+-- profile). An order is a list of line numbers, those of the entries.
 use Rattle.std.specs.Prelude.{◌≡◌, ◌≢◌, ◌⊎◌, ◌<◌, ◌≤◌, ◌-◌, ◌%◌, ◌==◌, ℕ, Bool, true, false, List, [], ◌∷◌, filter, flat_map, map, Option, Some, None, option_and_then, slice_get}
 use Rattle.aircraft_core.specs.declared.entry.Entry.{Entry}
 use Rattle.aircraft_core.specs.declared.entry.Entry.TheVariants.{Uplink, Answer, Logon}
@@ -42,8 +42,9 @@ address_in reading = None
 abbrev pub place_on : List (List ℕ) → Option Reading → Option ℕ
 place_on addresses reading = option_and_then (link_from 0 addresses) (address_in reading)
 
--- Of two lines with entries the later one's may be taken first: one burst holds both lines, so all lines from the one to the other
--- are `U` and `B` lines; and they go to different workers, so the places of their addresses differ modulo the number of workers.
+-- Of two lines with entries the later one's may be taken first: one burst holds both lines, so all lines from the one
+-- to the other are `U` and `B` lines; and they go to different workers, so the places of their addresses differ
+-- modulo the number of workers.
 pub record MayPass (addresses : List (List ℕ)) (readings : List Reading) (workers earlier later : ℕ) : Type 0 where
   pub burst : (number : ℕ) → earlier ≤ number → number ≤ later → is_burst_line (reading_at readings number) ≡ true
   pub one : ℕ

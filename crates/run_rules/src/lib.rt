@@ -10,7 +10,7 @@
 //! Below stand the definitions of script lines, texts, the aircraft and the centre; above stand `adsc_run`, `generated_scripts` and the bench, whose contracts cite
 //! these. Begin with `specs/Happenings.antt` (what happens), `specs/Lines.antt` and `specs/Texts.antt` (what a line does),
 //! `specs/Runs.antt` (the run) and `specs/Orders.antt` (allowed orders); then `specs/Output.antt`, `specs/Claims.antt` (confirmed,
-//! accepted, reused too early) and `src/laws.rt`.
+//! accepted, reused too early), `specs/FaultTable.antt` (the faults of a line by what stands before it, as a table) and `src/laws.rt`.
 #![tactic(auto)]
 
 mod end;
@@ -23,8 +23,8 @@ pub use laws::{
     a_journal_line_shows_its_order, a_line_has_one_reading, a_rising_order_is_allowed,
     a_script_has_a_run_under_each_order, a_script_has_one_run, a_sent_message_is_taken,
     allowed_orders_keep_line_order, each_input_is_a_script, few_asks_reuse_nothing, orders_agree,
-    what_is_shown_was_accepted, worked_bad_lines, worked_burst, worked_early_reuse, worked_heads,
-    worked_lines, worked_orders, worked_scripts,
+    the_first_fault_stops, what_is_shown_was_accepted, worked_bad_lines, worked_burst,
+    worked_early_reuse, worked_heads, worked_lines, worked_orders, worked_scripts,
 };
 pub use reading::Reading;
 pub use refused::{RefusedLine, RefusedWhy};

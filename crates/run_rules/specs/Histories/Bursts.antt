@@ -1,5 +1,5 @@
--- A worked burst: six ground addresses, each with an emergency request in one burst of texts. An aircraft has at most five live links
--- (this project's profile), so the order of the entries decides which request isn't heard.
+-- A worked burst: six ground addresses, each with an emergency request in one burst of texts. An aircraft has at most
+-- five live links (this project's profile), so the order of the entries decides which request isn't heard.
 use Rattle.std.specs.Prelude.{◌≡◌, ℕ, List, [], ◌∷◌, ◌++◌, codes, None}
 use Rattle.adsc_requests.specs.Grammar.{EncodesUplink}
 use Rattle.adsc_requests.specs.declared.message.Uplink.{Uplink}
@@ -47,8 +47,8 @@ pub record Admits (who : Who) (sample : FlightSample) (script : Script) (order :
       (text_of_items (six_links who sample) heard sample (Acknowledgement 1 ∷ []) ∷ [])
   pub silent : AreDownlinks (six_links who sample) (journal_at order run.log) unheard []
 
--- In the order of the lines the link of line 8 is heard and that of line 9 isn't; where line 9 is taken before line 8, it is the other way
--- round.
+-- In the order of the lines the link of line 8 is heard and that of line 9 isn't; where line 9 is taken before line
+-- 8, it is the other way round.
 abbrev pub OrderDecides : Type 0
 OrderDecides = (who : Who) (sample : FlightSample) (octets : ArrayVec ℕ) (uplink : Uplink)
     → uplink.messages.items ≡ emergency 1 ∷ [] → EncodesUplink uplink octets.items

@@ -1,5 +1,5 @@
--- What single lines of an output are, one of each form, and what single happenings tell. The output is this project's profile; places in
--- texts are those of ARINC 622.
+-- What single lines of an output are, one of each form, and what single happenings tell. The output is this project's
+-- profile; places in texts are those of ARINC 622.
 use Rattle.std.specs.Prelude.{◌≡◌, ℕ, Option, true, false, List, [], ◌∷◌, ◌++◌, codes, flat_map, length, Some, None}
 use Rattle.adsc_io.specs.Lines.{ended}
 use Rattle.acars_envelope.specs.declared.refusal.EnvelopeWhy.TheVariants as envelope
@@ -50,7 +50,8 @@ pub record LogonsAreWritten : Type 0 where
   pub sent : logon_line (codes "GRND001") Sent ≡ ended (codes "L,GRND001,sent")
   pub accepted : logon_line (codes "GRND001") Accepted ≡ ended (codes "L,GRND001,accepted")
   pub rejected : logon_line (codes "GRND001") (Rejected 3) ≡ ended (codes "L,GRND001,rejected,3")
-  pub downlinks : downlink_lines (codes "/GRND001.ADS" ∷ codes "/GRND001.AFN" ∷ []) ≡ ended (codes "D,/GRND001.ADS") ++ ended (codes "D,/GRND001.AFN")
+  pub downlinks : downlink_lines (codes "/GRND001.ADS" ∷ codes "/GRND001.AFN" ∷ [])
+      ≡ ended (codes "D,/GRND001.ADS") ++ ended (codes "D,/GRND001.AFN")
 
 -- A text that is refused so is written so.
 abbrev pub IsRefusedWritten : ℕ → RefusedWhy → List ℕ → Type 0
@@ -59,17 +60,20 @@ IsRefusedWritten number why text = refused_line (record { line = number; why = w
 -- The five reasons to refuse a text; an envelope by its place, or by a wrong check.
 pub record RefusedTextsAreWritten : Type 0 where
   pub place : IsRefusedWritten 5 (why.Envelope (record { place = 23; why = envelope.Hex })) (codes "X,5,HEX,23")
-  pub check : IsRefusedWritten 4 (why.Envelope (record { place = 24; why = envelope.Check 0xbd4e 0xbd4f })) (codes "X,4,CHECK,BD4E,BD4F")
+  pub check : IsRefusedWritten 4 (why.Envelope (record { place = 24; why = envelope.Check 0xbd4e 0xbd4f }))
+      (codes "X,4,CHECK,BD4E,BD4F")
   pub unknown : IsRefusedWritten 6 why.UnknownAddress (codes "X,6,UNKNOWN,1")
   pub text : IsRefusedWritten 7 (why.Afn 12) (codes "X,7,TEXT,12")
   pub other : IsRefusedWritten 12 (why.OtherRegistration 21) (codes "X,12,OTHER,21")
-  pub bits : IsRefusedWritten 8 (why.Bits (record { bit = 32; reason = 2; number = 1; octet = 5 })) (codes "X,8,REASON-2,32")
+  pub bits : IsRefusedWritten 8 (why.Bits (record { bit = 32; reason = 2; number = 1; octet = 5 }))
+      (codes "X,8,REASON-2,32")
 
 -- The row of this kind is written so.
 abbrev pub IsRowWritten : Kind → Shown → List ℕ → Type 0
 IsRowWritten kind row text = row_line (codes "GRND001") kind row ≡ ended text
 
--- The six places where a request may stand, and the four kinds; and the lines of two links, of which one alone is a centre's.
+-- The six places where a request may stand, and the four kinds; and the lines of two links, of which one alone is a
+-- centre's.
 pub record RowsAreWritten : Type 0 where
   pub nothing : IsRowWritten Demand shown.Nothing (codes "C,GRND001,D,none")
   pub event : IsRowWritten Event shown.Nothing (codes "C,GRND001,V,none")
@@ -79,7 +83,8 @@ pub record RowsAreWritten : Type 0 where
   pub refused : IsRowWritten Periodic (shown.Refused (periodic 3) 11) (codes "C,GRND001,P,refused,11,07030BA5")
   pub cancelling : IsRowWritten Emergency (shown.Cancelling (timed 4)) (codes "C,GRND001,M,cancelling,09040BA5")
   pub links : centres_lines (Cancelled 4 1 All message.CancelAll ∷ []) 0 (codes "GRND001" ∷ codes "GRND002" ∷ [])
-      ≡ flat_map ended (codes "C,GRND002,D,none" ∷ codes "C,GRND002,P,none" ∷ codes "C,GRND002,V,none" ∷ codes "C,GRND002,M,none" ∷ [])
+      ≡ flat_map ended (codes "C,GRND002,D,none" ∷ codes "C,GRND002,P,none"
+      ∷ codes "C,GRND002,V,none" ∷ codes "C,GRND002,M,none" ∷ [])
 
 -- A line that is bad by this code with this value is written so.
 abbrev pub IsBadWritten : ℕ → Code → ℕ → List ℕ → Type 0
@@ -118,8 +123,8 @@ pub record HeadLettersAreDue : Type 0 where
   pub third : head_letter 3 ≡ Some Sample
   pub fourth : head_letter 4 ≡ None
 
--- Behind the head a line of its letters, or a text's line that isn't read as a text, is bad by its kind; in the head a text is a fault of
--- the head.
+-- Behind the head a line of its letters, or a text's line that isn't read as a text, is bad by its kind; in the head
+-- a text is a fault of the head.
 pub record HeadLinesStop : Type 0 where
   pub aircraft : (setting : Setting) (log : List Happening) (number : ℕ) (who : Who) → flight_step setting log number (line.A who) ≡ stops code.Kind 0
   pub ground : (setting : Setting) (log : List Happening) (number : ℕ) (addresses : AddressList) (kept : Option ℕ)
@@ -132,8 +137,9 @@ pub record AnswersAreRefused : Type 0 where
   pub other : (setting : Setting) (log : List Happening) (number link : ℕ) (answer : LogonAnswer) → same_text answer.registration setting.registration ≡ false
       → answer_step setting log number link answer ≡ refuses number (why.OtherRegistration (length (codes "/AKLCDYA.AFN/FMH" ++ answer.flight ++ codes ",")))
 
--- What single happenings and lines tell: a refused text is one; an answer is a text on its link; a centre that hears is one; a delivery of
--- what a centre sent stands in a burst, and a tick doesn't; no text made the entry of a tick, which counts as one of link 0.
+-- What single happenings and lines tell: a refused text is one; an answer is a text on its link; a centre that hears
+-- is one; a delivery of what a centre sent stands in a burst, and a tick doesn't; no text made the entry of a tick,
+-- which counts as one of link 0.
 pub record HappeningsTell : Type 0 where
   pub refused : (refused : RefusedLine) → refused_lines (Refused refused ∷ []) ≡ refused ∷ []
   pub answer : (number found : ℕ) → is_text_on 3 (entry.Answer number 3 found) ≡ true

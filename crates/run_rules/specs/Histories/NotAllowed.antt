@@ -37,17 +37,20 @@ MayTake script order workers = RunsTo script order (λ run. (run.end ≡ Done) �
 -- They may not, though it holds the lines of all entries and no others.
 abbrev pub MayNotTake : Script → List ℕ → ℕ → Type 0
 MayNotTake script order workers =
-    RunsTo script order (λ run. (run.end ≡ Done) × IsOrderOf (entries run.log) order × (IsAllowedOrder script run workers order → ⊥))
+    RunsTo script order (λ run.
+    (run.end ≡ Done) × IsOrderOf (entries run.log) order × (IsAllowedOrder script run workers order → ⊥))
 
 -- Whoever the aircraft is, and whatever the texts ask.
 abbrev pub Always : (Who → FlightSample → ArrayVec ℕ → Uplink → Type 0) → Type 0
-Always Holds = (who : Who) (sample : FlightSample) (octets : ArrayVec ℕ) (uplink : Uplink) → Holds who sample octets uplink
+Always Holds =
+    (who : Who) (sample : FlightSample) (octets : ArrayVec ℕ) (uplink : Uplink) → Holds who sample octets uplink
 
 -- ---- what isn't allowed
 
 -- Two texts of which each goes to a worker of its own, at the lines 4 and 6, and a tick between them.
 abbrev pub with_tick : Who → FlightSample → ArrayVec ℕ → Uplink → Script
-with_tick who sample octets uplink = behind_head who sample (sends who octets uplink first ∷ Says (line.T 0) ∷ sends who octets uplink second ∷ [])
+with_tick who sample octets uplink =
+    behind_head who sample (sends who octets uplink first ∷ Says (line.T 0) ∷ sends who octets uplink second ∷ [])
 
 -- They may not be exchanged across the tick, nor may the tick come before the first.
 abbrev pub AcrossATick : Type 0
@@ -59,7 +62,8 @@ AcrossATick = Always (λ who sample octets uplink.
 -- The same two texts, and between them a cancel of the centre at the third address, which makes no entry.
 abbrev pub with_cancel_all : Who → FlightSample → ArrayVec ℕ → Uplink → Script
 with_cancel_all who sample octets uplink =
-    behind_head who sample (sends who octets uplink first ∷ Says (line.K third All) ∷ sends who octets uplink second ∷ [])
+    behind_head who sample
+    (sends who octets uplink first ∷ Says (line.K third All) ∷ sends who octets uplink second ∷ [])
 
 -- They may not be exchanged: the cancel ends the burst.
 abbrev pub AcrossACancel : Type 0
@@ -69,7 +73,8 @@ AcrossACancel = Always (λ who sample octets uplink.
 
 -- Two texts in one burst, at the lines 4 and 5, of the first and the third address.
 abbrev pub two_texts : Who → FlightSample → ArrayVec ℕ → Uplink → Script
-two_texts who sample octets uplink = behind_head who sample (sends who octets uplink first ∷ sends who octets uplink third ∷ [])
+two_texts who sample octets uplink =
+    behind_head who sample (sends who octets uplink first ∷ sends who octets uplink third ∷ [])
 
 -- Of two workers one takes both, so they may not be exchanged; three workers may exchange them.
 abbrev pub OfOneWorker : Type 0
