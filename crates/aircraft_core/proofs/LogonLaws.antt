@@ -145,7 +145,7 @@ logon_taken setting line link latest table outboxes outbox now_outbox inside is 
 -- The link of an entry that an aircraft takes has a logon.
 pub has_logon : (setting : Setting) (links : ℕ) (entry : Entry) → links ≡ length setting.addresses → IsTakenBy setting entry → HasLinkBelow links entry
 has_logon setting links (entries.Uplink line link bytes) same taken = tt
-has_logon setting links (entries.Answer line link code) same taken = omega (arith, same, taken.0)
+has_logon setting links (entries.Answer line link code) same taken = omega (arith, same, taken)
 has_logon setting links (entries.Sample line sample) same taken = tt
 has_logon setting links (entries.Tick line t) same taken = tt
 has_logon setting links (entries.Crew line on) same taken = tt

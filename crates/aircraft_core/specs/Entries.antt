@@ -22,11 +22,11 @@ is_heard_by link (Answer line other code) = link == other
 is_heard_by link (Logon line other) = link == other
 is_heard_by link entry = true
 
--- An aircraft of this setting takes the entry: its link is one of the aircraft's, its payload has 1 to 255 octets, its code is at most
--- 9, and its moment is at most 999,999,999 seconds.
+-- An aircraft of this setting takes the entry: its link is one of the aircraft's, its payload has 1 to 255 octets, and its moment is at
+-- most 999,999,999 seconds.
 abbrev pub IsTakenBy : Setting → Entry → Type 0
 IsTakenBy setting (Uplink line link bytes) = (link < length setting.addresses) × (1 ≤ length bytes.items) × (length bytes.items ≤ 255)
-IsTakenBy setting (Answer line link code) = (link < length setting.addresses) × (code ≤ 9)
+IsTakenBy setting (Answer line link code) = link < length setting.addresses
 IsTakenBy setting (Logon line link) = link < length setting.addresses
 IsTakenBy setting (Tick line t) = t < 1000000000
 IsTakenBy setting entry = Unit {0}

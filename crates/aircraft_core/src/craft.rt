@@ -11,7 +11,7 @@ ghost use Rattle.aircraft_core.specs.LogonStates.{logon_state};
 ghost use Rattle.aircraft_core.specs.Outboxes.{outbox_of, entry_bytes};
 ghost use Rattle.aircraft_core.specs.JournalActs.{JournalActs, newest_first};
 ghost use Rattle.aircraft_core.specs.Downlinks.{AreDownlinks};
-ghost use Rattle.aircraft_core.specs.Setting.{address_of};
+ghost use Rattle.aircraft_core.specs.Setting.{address_of, configuration_of};
 
 use crate::entry::Entry;
 use crate::logons::note;
@@ -117,9 +117,9 @@ impl Craft {
     /// Enters an entry at the end of the journal, and adds the downlinks that it makes due to the
     /// outboxes.
     ///
-    /// Room is kept for it, its link is one of the aircraft's, its payload has 1 to 255 octets, its
-    /// code is at most 9, and its moment is at most 999,999,999 s. It takes no memory and can't be
-    /// refused, and it costs the same however long the journal is.
+    /// Room is kept for it, its link is one of the aircraft's, its payload has 1 to 255 octets, and
+    /// its moment is at most 999,999,999 s. It takes no memory and can't be refused, and it costs
+    /// the same however long the journal is.
     #[inline(always)]
     pub fn apply(&mut self, entry: Entry)
         requires room { 0 < self.old.spare }
@@ -187,9 +187,12 @@ impl Craft {
         self.logons[link]
     }
 
-    /// The table of the aircraft's contracts: it stands for all acts of the journal.
+    /// The table of the aircraft's contracts: it is one of the aircraft's own configuration and
+    /// links, and stands for all acts of the journal.
     pub fn table(&self) -> &Table
-        ensures { (acts : List (List Act))
+        ensures configured { result.now.configuration ≡ configuration_of self.now.setting }
+        ensures linked { result.now.links ≡ length self.now.setting.addresses }
+        ensures stands { (acts : List (List Act))
             → JournalActs self.now.setting.first self.now.journal acts
             → StandsFor result.now (newest_first acts) }
     {

@@ -23,7 +23,7 @@ pub enum Entry {
         line: u32,
         /// The place of the link among the aircraft's links, counted from 0.
         link: u8,
-        /// The answer's code: 0 accepts the contact, and 1 to 9 reject it.
+        /// The answer's code: 0 accepts the contact, and any other rejects it.
         code: u8,
     },
     /// A flight sample that the avionics gave.
