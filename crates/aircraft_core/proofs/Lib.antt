@@ -5,7 +5,9 @@ pub mod HearingLaws
 pub mod Independence
 pub mod JournalLaws
 pub mod LinkLaws
+pub mod LiveLaws
 pub mod LogonLaws
+pub mod LookingBack
 pub mod OneList
 pub mod SendableLaws
 pub mod SentLaws

@@ -21,7 +21,7 @@ use Rattle.contract_table.specs.Tables.{TableState, StandsFor}
 use Rattle.flight_samples.specs.declared.sample.Sample.{Sample as FlightSample}
 use Rattle.aircraft_core.specs.declared.entry.Entry.{Entry}
 use Rattle.aircraft_core.specs.declared.entry.Entry.TheVariants as entries
-use Rattle.aircraft_core.specs.CraftFields.{KeepsLogons}
+use Rattle.aircraft_core.specs.Standing.{KeepsLogons}
 use Rattle.aircraft_core.specs.Downlinks.{contact_text_on, entry_texts, texts_of_items}
 use Rattle.aircraft_core.specs.Entries.{IsTakenBy, is_heard_by, latest_after}
 use Rattle.aircraft_core.specs.JournalActs.{EntryActs}

@@ -1,13 +1,17 @@
+pub mod AddedTexts
 pub mod Admissions
 pub mod Aircraft
 pub mod CraftFields
 pub mod Downlinks
 pub mod Entries
 pub mod JournalActs
+pub mod LiveAircraft
+pub mod LiveFields
 pub mod LogonStates
 pub mod Outboxes
 pub mod Reports
 pub mod Sending
 pub mod Setting
+pub mod Standing
 pub mod Taking
 pub mod Telling

@@ -5,7 +5,6 @@ ghost use Rattle.adsc_io.specs.Lines.{ended_lines, script_lines};
 ghost use Rattle.contract_rules.specs.Acts.{Act};
 ghost use Rattle.contract_table.specs.Tables.{StandsFor};
 ghost use Rattle.due_event.specs.RuleTerms.{rules_profile};
-ghost use Rattle.afn_logon.specs.declared.logon.Logon.TheVariants.{Nothing};
 ghost use Rattle.aircraft_core.specs.Entries.{IsTakenBy};
 ghost use Rattle.aircraft_core.specs.LogonStates.{logon_state};
 ghost use Rattle.aircraft_core.specs.Outboxes.{outbox_of, entry_bytes};
@@ -15,6 +14,7 @@ ghost use Rattle.aircraft_core.specs.Setting.{address_of, configuration_of};
 
 use crate::entry::Entry;
 use crate::logons::note;
+use crate::making::{copied, empty_outboxes, no_logons};
 use crate::outbox::Outbox;
 use crate::room::enter;
 use crate::setup::Setup;
@@ -198,37 +198,6 @@ impl Craft {
     {
         &self.table
     }
-}
-
-/// A copy of these addresses.
-fn copied(alloc: Global, links: &[Address]) -> Result<Vec<Address>, NoMemory>
-    ensures { IfOk result (λ addresses. addresses.items ≡ links.now) }
-{
-    Ok(Vec::from_slice(alloc, links)?)
-}
-
-/// So many empty outboxes.
-fn empty_outboxes(alloc: Global, links: usize) -> Result<Vec<Outbox>, NoMemory>
-    ensures count { IfOk result (λ outboxes. length outboxes.items ≡ links) }
-    ensures empty { IfOk result (λ outboxes. All (λ outbox. outbox.sent ≡ []) outboxes.items) }
-{
-    let mut outboxes = Vec::new(alloc);
-    for _ in 0..links {
-        outboxes.push(Outbox::new(alloc))?;
-    }
-    Ok(outboxes)
-}
-
-/// So many logons of which no contact was sent.
-fn no_logons(alloc: Global, links: usize) -> Result<Vec<Logon>, NoMemory>
-    ensures count { IfOk result (λ logons. length logons.items ≡ links) }
-    ensures nothing { IfOk result (λ logons. All (λ logon. logon ≡ Nothing) logons.items) }
-{
-    let mut logons = Vec::new(alloc);
-    for _ in 0..links {
-        logons.push(Logon::Nothing)?;
-    }
-    Ok(logons)
 }
 
 /// Keeps room for the bytes of one entry in each outbox. Where memory runs out, some have more

@@ -1,10 +1,11 @@
 //! Laws of the definitions.
-ghost use Rattle.std.specs.Prelude.{◌≡◌, ℕ, ◌≤◌, Bool, List, filter, length};
+ghost use Rattle.std.specs.Prelude.{◌≡◌, ℕ, ◌≤◌, Bool, List, [], ◌∷◌, ◌++◌, filter, length};
+ghost use Rattle.aircraft_core.specs.AddedTexts.{AreAdded};
 ghost use Rattle.aircraft_core.specs.Admissions.{AreAdmissions};
 ghost use Rattle.aircraft_core.specs.Downlinks.{AreDownlinks};
 ghost use Rattle.aircraft_core.specs.Entries.{is_heard_by};
 ghost use Rattle.aircraft_core.specs.JournalActs.{EntryActs, JournalActs, UplinkActs};
-ghost use Rattle.aircraft_core.specs.LogonStates.{logon_state};
+ghost use Rattle.aircraft_core.specs.LogonStates.{logon_state, state_looking_back};
 ghost use Rattle.aircraft_core.specs.Setting.{Setting};
 ghost use Rattle.contract_rules.specs.Acts.{Act};
 ghost use Rattle.flight_samples.specs.declared.sample.Sample.{Sample as FlightSample};
@@ -73,4 +74,32 @@ pub fn logons_are_independent()
     ensures { (link : ℕ) (one other : List JournalEntry) →
         filter (is_heard_by link) one ≡ filter (is_heard_by link) other →
         logon_state link one ≡ logon_state link other }
+{}
+
+/// The logon state of a link by looking back: where no logon of the link came it is nothing, and
+/// else the last logon of the link or answer on it decides.
+pub fn the_last_word_decides_a_logon()
+    ensures { (link : ℕ) (journal : List JournalEntry) → logon_state link journal ≡ state_looking_back link journal }
+{}
+
+/// What an entry adds to the downlinks of a journal on a link is one list of texts.
+pub fn an_entry_adds_one_list_of_texts()
+    ensures { (setting : Setting) (journal : List JournalEntry) (entry : JournalEntry) (link : ℕ) (one other : List
+        (List ℕ)) →
+        AreAdded setting journal entry link one → AreAdded setting journal entry link other → one ≡ other }
+{}
+
+/// An entry adds one text to a link at most.
+pub fn an_entry_adds_one_text_at_most()
+    ensures { (setting : Setting) (journal : List JournalEntry) (entry : JournalEntry) (link : ℕ) (texts : List
+        (List ℕ)) →
+        AreAdded setting journal entry link texts → length texts ≤ 1 }
+{}
+
+/// What an entry adds stands behind the downlinks of the journal before it.
+pub fn what_is_added_stands_behind()
+    ensures { (setting : Setting) (journal : List JournalEntry) (entry : JournalEntry) (link : ℕ) (before texts : List
+        (List ℕ)) →
+        AreDownlinks setting journal link before → AreAdded setting journal entry link texts →
+        AreDownlinks setting (journal ++ entry ∷ []) link (before ++ texts) }
 {}

@@ -1,14 +1,19 @@
 //! The outbox of a link.
-ghost use Rattle.std.specs.Prelude.{◌≡◌, ◌+◌, ◌*◌, ◌≤◌, ◌<◌, ◌++◌, All, [], length, OnOk};
+ghost use Rattle.std.specs.Prelude.{◌≡◌, ◌+◌, ◌*◌, ◌≤◌, ◌<◌, ◌++◌, ℕ, List, All, [], length, IfOk, OnOk};
 ghost use Rattle.acars_envelope.specs.declared.texts.Body.TheVariants.{Ads};
 ghost use Rattle.acars_envelope.specs.Texts.{sealed_text};
-ghost use Rattle.adsc_io.specs.Lines.{IsUnbroken, ended};
+ghost use Rattle.adsc_io.specs.Lines.{IsUnbroken, ended, ended_lines};
+ghost use Rattle.aircraft_core.specs.AddedTexts.{listed};
+ghost use Rattle.aircraft_core.specs.Outboxes.{HasRoom};
 
 use crate::room::{append, end_line};
 use acars_envelope::{Address, Registration, append_ads_text};
 use adsc_io::NoMemory;
 use std::alloc::Global;
 use std::marker::Model;
+
+/// The bytes of the longest text and its newline.
+const TEXT_BYTES: usize = 534;
 
 /// What an aircraft sent on one link: its downlinks, each ended by a newline.
 ///
@@ -19,23 +24,33 @@ pub(crate) struct Outbox {
 }
 
 impl Model for Outbox {
-    ghost use Rattle.std.specs.Prelude.{◌-◌};
+    ghost use Rattle.std.specs.Prelude.{◌-◌, ◌≤◌};
     ghost use Rattle.std.specs.Vec.{vec_len, vec_capacity};
     ghost use Rattle.aircraft_core.specs.Outboxes.{OutboxState};
 
     ghost Value = { OutboxState };
 
     ghost view = { λ o. record { sent = o.bytes.items; room = vec_capacity o.bytes - vec_len o.bytes } };
+
+    ghost invariant = { λ o. 534 ≤ vec_capacity o.bytes };
 }
 
 impl Outbox {
-    /// An empty outbox.
-    pub(crate) fn new(alloc: Global) -> Outbox
-        ensures { result.sent ≡ [] }
+    /// An empty outbox, with room for one text. `NoMemory` comes for want of memory alone.
+    pub(crate) fn new(alloc: Global) -> Result<Outbox, NoMemory>
+        ensures { IfOk result (λ outbox. outbox.sent ≡ []) }
     {
-        Outbox {
-            bytes: Vec::new(alloc),
-        }
+        Ok(Outbox {
+            bytes: Vec::with_capacity(alloc, TEXT_BYTES)?,
+        })
+    }
+
+    /// Forgets what was sent. There is room for one text then.
+    pub(crate) fn clear(&mut self)
+        ensures sent { self.new.sent ≡ [] }
+        ensures room { HasRoom self.new }
+    {
+        self.bytes.clear();
     }
 
     /// Keeps room for so many more bytes. Where memory runs out, the outbox stands as it was, or
@@ -73,6 +88,17 @@ impl Outbox {
     {
         append(&mut self.bytes, text);
         end_line(&mut self.bytes);
+    }
+
+    /// The text that was sent, without its newline, where one was sent at most.
+    pub(crate) fn text(&self) -> Option<&[u8]>
+        ensures { (texts : List (List ℕ)) → length texts ≤ 1 → self.now.sent ≡ ended_lines texts
+            → listed result ≡ texts }
+    {
+        match self.bytes.split_last() {
+            Some((_, text)) => Some(text),
+            None => None,
+        }
     }
 
     /// What was sent.

@@ -2,9 +2,10 @@ use Rattle.std.proofs.Common.{◌≡◌, ◌+◌, ◌-◌, ◌<◌, ◌≤◌, L
 use Rattle.std.specs.Vec.{vec_len, vec_capacity}
 use Rattle.afn_logon.specs.declared.logon.Logon.{Logon}
 use Rattle.aircraft_core.specs.Aircraft.{Aircraft}
-use Rattle.aircraft_core.specs.CraftFields.{KeepsDownlinks, KeepsLogons}
+use Rattle.aircraft_core.specs.CraftFields.{KeepsDownlinks}
 use Rattle.aircraft_core.specs.Entries.{IsTakenBy}
 use Rattle.aircraft_core.specs.Outboxes.{OutboxState, entries_with_room}
+use Rattle.aircraft_core.specs.Standing.{KeepsLogons}
 use Rattle.aircraft_core.proofs.JournalLaws.{kept_on}
 use Rattle.aircraft_core.proofs.LogonLaws.{has_logon, logons_kept}
 use Rattle.aircraft_core.proofs.SpareLaws.{spare_after, spare_place, spare_room, whole_slice}

@@ -1,7 +1,9 @@
 use Rattle.std.proofs.Common.{◌≡◌, ◌-◌, ◌<◌, ◌≤◌, List, OnOk, length, ap, sym, ◌∙◌, subst, arith}
 use Rattle.std.specs.Vec.{vec_len, vec_capacity}
 use Rattle.aircraft_core.specs.Aircraft.{Aircraft}
+use Rattle.aircraft_core.specs.CraftFields.{KeepsDownlinks}
 use Rattle.aircraft_core.specs.Outboxes.{OutboxState, entries_with_room}
+use Rattle.aircraft_core.proofs.JournalLaws.{kept_same}
 use Rattle.aircraft_core.proofs.SpareLaws.{on_ok, some_spare, spare_kept, whole_slice}
 use Rattle.aircraft_core.proofs.craft.Craft.reserve.Goals as goal
 
@@ -24,3 +26,16 @@ returns-clause-kept c =
     (sym (whole_slice c.reserve_each.new.outboxes craft.outboxes.items craft.outboxes.len craft.outboxes.ok.0 each_link))
     (subst (λ (a : Aircraft). a.spare ≤ entries_with_room places c.reserve_each.new.outboxes) c.self.view_is
     (spare_kept before places craft.outboxes.items c.reserve_each.new.outboxes (omega arith) each_link (rw c.as_mut_slice.ensures.value at c.reserve_each.ensures.kept)))
+
+pub invariant_of-self-2 : goal.invariant_of-self-2
+invariant_of-self-2 c =
+    let craft = c.self.inside in
+    let each_link : length c.reserve_each.new.outboxes ≡ length craft.outboxes.items = c.reserve_each.ensures.each_link ∙ ap length c.as_mut_slice.ensures.value in
+    record {
+      outboxes = subst (λ (outboxes : List OutboxState). KeepsDownlinks craft.setup c.reserve.new.self.items craft.latest craft.table outboxes)
+          (sym (whole_slice c.reserve_each.new.outboxes craft.outboxes.items craft.outboxes.len craft.outboxes.ok.0 each_link))
+          (rw c.reserve.ensures.items
+          (kept_same craft.setup craft.journal.items craft.latest craft.table craft.outboxes.items c.reserve_each.new.outboxes c.self.invariant.outboxes each_link
+          (rw c.as_mut_slice.ensures.value at c.reserve_each.ensures.sent)));
+      logons = rw c.reserve.ensures.items c.self.invariant.logons;
+    }

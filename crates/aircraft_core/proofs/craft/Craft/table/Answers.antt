@@ -8,12 +8,12 @@ use Rattle.aircraft_core.proofs.craft.Craft.table.Goals as goal
 pub returns-clause-configured : goal.returns-clause-configured
 returns-clause-configured c =
     let craft = c.self.inside in
-    subst (λ (a : Aircraft). craft.table.configuration ≡ configuration_of a.setting) c.self.view_is c.self.invariant.outboxes.configured
+    subst (λ (a : Aircraft). craft.table.configuration ≡ configuration_of a.setting) c.self.view_is c.self.invariant.outboxes.at.configured
 
 pub returns-clause-linked : goal.returns-clause-linked
 returns-clause-linked c =
     let craft = c.self.inside in
-    subst (λ (a : Aircraft). craft.table.links ≡ length a.setting.addresses) c.self.view_is c.self.invariant.outboxes.linked
+    subst (λ (a : Aircraft). craft.table.links ≡ length a.setting.addresses) c.self.view_is c.self.invariant.outboxes.at.linked
 
 pub returns-clause-stands : goal.returns-clause-stands
 returns-clause-stands c acts are =

@@ -1,6 +1,6 @@
 -- So many outboxes so far, all of them empty.
 use Rattle.std.proofs.Common.{◌≡◌, [], All, length}
-use Rattle.aircraft_core.proofs.craft.empty_outboxes.Given as goal
+use Rattle.aircraft_core.proofs.making.empty_outboxes.Given as goal
 
 abbrev pub invariant-loop : goal.invariant-loop
 invariant-loop l = record {
