@@ -10,7 +10,7 @@ ghost use Rattle.centre_core.specs.Heard.{IsAnswerTo, IsMatched, OnIgnored, with
 ghost use Rattle.centre_core.specs.Hearing.{Hearing, SaysTo};
 ghost use Rattle.centre_core.specs.Histories.{InHistory, StandsFor, next_number_at, row_at, row_for, was_contacted};
 ghost use Rattle.centre_core.specs.Sending.{message_text};
-ghost use Rattle.centre_core.specs.Tables.{mode_cancel_number, number_pending, number_to_cancel, with_number};
+ghost use Rattle.centre_core.specs.Tables.{mode_cancel_number, number_pending, number_to_cancel, row_in, with_number};
 ghost use Rattle.centre_core.specs.View.{KeepsNames};
 
 use crate::greeting::greeting_of;
@@ -193,7 +193,8 @@ impl Centre {
 
     /// Where the centre's request of a kind stands.
     pub fn shown(&self, kind: Kind) -> Shown
-        ensures { InHistory self.now (λ w. result ≡ row_at kind w) }
+        ensures row { result ≡ row_in kind self.now.table }
+        ensures history { InHistory self.now (λ w. result ≡ row_at kind w) }
     {
         self.table.row(kind)
     }
