@@ -1,5 +1,5 @@
 -- Lists that begin others.
-use Rattle.std.proofs.Common.{◌≡◌, ◌≤◌, List, [], ◌∷◌, ◌++◌, length, refl, ap, sym, ◌∙◌, arith, append_assoc, append-nil}
+use Rattle.std.proofs.Common.{◌≡◌, ◌≤◌, List, [], ◌∷◌, ◌++◌, length, refl, ap, sym, ◌∙◌, arith, append_assoc, append-nil, length-append}
 use mathlib.Core.List.{IsPrefix}
 
 module _ {A : Type 0} where
@@ -23,3 +23,11 @@ module _ {A : Type 0} where
       let heads : x ≡ y = cc (p.1, q.1) in
       let shorter = prefix_shorter xs ys zs (p.0, cc (p.1)) (q.0, cc (q.1)) (omega arith) in
       (shorter.0, cc (heads, shorter.1))
+
+  -- A beginning that is as long is the whole list.
+  pub prefix_whole : (xs zs : List A) → IsPrefix xs zs → length zs ≤ length xs → xs ≡ zs
+  prefix_whole xs zs p le = ended p.0 (omega (arith, length-append xs p.0, ap length p.1, le)) ∙ p.1
+    where
+      ended : (rest : List A) → length rest ≡ 0 → xs ≡ xs ++ rest
+      ended [] none = sym (append-nil xs)
+      ended (x ∷ rest) none = absurd (omega arith)

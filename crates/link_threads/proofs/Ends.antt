@@ -16,6 +16,7 @@ use Rattle.link_threads.specs.Interleavings.{Interleaves, entries_of, entries_in
 use Rattle.link_threads.specs.Passes.{IsLonger}
 use Rattle.link_threads.specs.Turns.{numbers_of, entries_held, IsOwned, Fits, total, lists_known, entries_known, IsOneJournal, first_view, longer, joined, AreBegun}
 use Rattle.link_threads.specs.Seats.{IsLeft}
+use Rattle.link_threads.proofs.Beginnings.{prefix_same}
 use Rattle.link_threads.proofs.Views.{empty_apart, empty_owned, empty_entries, empty_length, total_two, total_alone, no_entries}
 use Rattle.link_threads.proofs.Mixing.{lists_of, mixed}
 
@@ -24,6 +25,7 @@ off e = true≢false (sym e)
 
 first_fits : (key : Opening) → Fits key.craft.value.journal [] 0 0 (λ _. 0) 0 (first_view key)
 first_fits key = record {
+  begun = λ opening is. prefix_same key.craft.value.journal key.craft.value.journal refl;
   seen = ([], refl);
   heard = tt;
   lists = empty_owned key.count;
@@ -32,14 +34,15 @@ first_fits key = record {
 }
 
 -- The rule at the start.
-pub starts : (key : Opening) (craft : Aircraft) (count : ℕ) → key.craft.value ≡ craft → count ≡ length craft.journal → IsOneJournal key (opening (count ∷ 0 ∷ []) (Some craft ∷ []) (first_view key))
-starts key craft count is long = record {
+pub starts : (key : Opening) (craft : Aircraft) (count : ℕ) → 1 ≤ key.count → key.craft.value ≡ craft → count ≡ length craft.journal → IsOneJournal key (opening (count ∷ 0 ∷ []) (Some craft ∷ []) (first_view key))
+starts key craft count at_least is long = record {
   log = [];
   turn = 0;
   seat = 0;
   owner = λ _. 0;
   words = let e : count ≡ length key.craft.value.journal + 0 = omega (arith, ap (λ (c : Aircraft). length c.journal) is) in ap (λ (n : ℕ). n ∷ 0 ∷ []) e;
   each = only;
+  reached = (0, first_view key, refl, sym (append-nil key.craft.value.journal), omega (arith, at_least, empty_length key.count));
   home = λ _. (craft, refl, ap (λ (c : Aircraft). c.journal) (sym is) ∙ sym (append-nil key.craft.value.journal), ap (λ (c : Aircraft). c.setting) (sym is));
   holder = λ busy. absurd (busy refl);
   lists = omega (arith, empty_length key.count);

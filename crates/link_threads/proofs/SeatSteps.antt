@@ -1,18 +1,22 @@
 -- The steps on seats keep the rule: a list is dealt out, a note is made, a seat is taken in.
-use Rattle.std.proofs.Common.{◌≡◌, ◌≢◌, ◌==◌, ⊎_elim, ℕ, zero, suc, ◌≤◌, List, [], ◌∷◌, ◌++◌, length, take, drop, set, cond, Bool, true, false, true≢false, refl, ap, sym, ◌∙◌, subst, arith, eq-eqb, ne_eqb, length-append}
+use Rattle.std.proofs.Common.{◌≡◌, ◌≢◌, ◌==◌, ◌⊎◌, inl, inr, ⊎_elim, ℕ, zero, suc, ◌≤◌, List, [], ◌∷◌, ◌++◌, length, take, drop, set, cond, Bool, true, false, true≢false, refl, ap, sym, ◌∙◌, subst, arith, eq-eqb, ne_eqb, leb-true, leb-false, length-append}
+use Rattle.std.specs.Prelude.{nat_le}
+use native.Mathlib.Decide.{ℕ_discrete}
+use mathlib.Core.Logic.{dite}
 use Rattle.std.specs.List.{AllByRecursion}
 use mathlib.Core.List.{IsPrefix}
 use mathlib.Core.Option.{some, some-injective}
 use lib.ListN.{get_elem?}
 use Rattle.atomic_table.specs.Table.{Splits, Joins}
-use Rattle.atomic_table.proofs.Lists.{at_set, set_else, at_longer}
+use Rattle.atomic_table.proofs.Lists.{at_set, set_again, set_else, set_here, at_longer}
 use Rattle.aircraft_core.specs.declared.entry.Entry.{Entry}
 use Rattle.link_threads.specs.declared.known.Held.{Held}
 use Rattle.link_threads.specs.declared.known.Known.{Known}
 use Rattle.link_threads.specs.declared.known.Opening.{Opening}
-use Rattle.link_threads.specs.Interleavings.{entries_in, AreApart}
-use Rattle.link_threads.specs.Turns.{numbers_of, entries_held, IsOwned, Fits, lists_known, entries_known, IsOneJournal, dealt, left_over, noted, longer, joined, nobody}
-use Rattle.link_threads.proofs.Views.{all_append, at_end, total_set, total_append, not_theirs, number_apart, owned_by, owned_apart, apart_append, entries_held_append, entries_split, length_split, first_number, first_owned}
+use Rattle.link_threads.specs.Interleavings.{entries_in, entries_of, AreApart}
+use Rattle.link_threads.specs.Turns.{numbers_of, entries_held, IsOwned, Fits, lists_known, entries_known, IsOneJournal, IsReached, dealt, left_over, noted, longer, joined, nobody}
+use Rattle.link_threads.proofs.Beginnings.{prefix_same, prefix_shorter, prefix_trans, prefix_whole}
+use Rattle.link_threads.proofs.Views.{within, all_append, at_end, total_set, total_append, not_theirs, number_apart, owned_by, owned_apart, apart_append, entries_held_append, entries_split, length_split, first_number, first_owned}
 use Rattle.link_threads.proofs.Logs.{entries_in_append}
 use Rattle.link_threads.proofs.TurnSteps.{each_set}
 
@@ -51,7 +55,8 @@ notes key id v idle s h at =
       owner = h.owner;
       words = h.words;
       each = each_more (Fits start h.log h.turn h.seat h.owner) s.views id v (noted v) (λ j u apart there. h.each j u there) mine
-          (record { seen = mine.seen; heard = tt; lists = tt; apart = tt; holder = λ on. absurd (off on) });
+          (record { begun = mine.begun; seen = mine.seen; heard = tt; lists = tt; apart = tt; holder = λ on. absurd (off on) });
+      reached = let r = h.reached in (r.0, r.1, at_longer (set s.views id v) (noted v ∷ []) r.0 r.1 (ap (λ views. get_elem? views r.0) (set_again s.views id v at) ∙ r.2), r.3, r.4);
       home = h.home;
       holder = λ busy. let held = h.holder busy in (held.0, holder_more s.views id h.seat v v (noted v) held.0 at idle held.1 held.2, held.2);
       lists = omega (arith, total_append lists_known (set s.views id v) (noted v), total_set lists_known s.views id v v at, h.lists);
@@ -88,6 +93,23 @@ left_apart : (lists : List Held) → AreApart (numbers_of lists) → AreApart (n
 left_apart [] apart = tt
 left_apart (held ∷ lists) apart = apart.1
 
+-- Who had seen the whole journal still has, or the seat that was dealt the list.
+reached_dealt : (views : List Known) (id : ℕ) (v : Known) (journal : List Entry) → get_elem? views id ≡ some v → 1 ≤ length v.lists → IsReached journal views
+    → IsReached journal (set views id (left_over v) ++ dealt v ∷ [])
+reached_dealt views id v journal at listed r = dite (ℕ_discrete r.0 id)
+    (λ same.
+    let whole : v.seen ≡ journal = ap (λ (k : Known). k.seen) (some-injective v r.1 (sym at ∙ ap (λ n. get_elem? views n) (sym same) ∙ r.2)) ∙ r.3 in
+    (length (set views id (left_over v)), dealt v, last_there (set views id (left_over v)) (dealt v), whole, one_dealt v.lists listed))
+    (λ apart. (r.0, r.1, at_longer (set views id (left_over v)) (dealt v ∷ []) r.0 r.1 (set_else views id r.0 (left_over v) apart ∙ r.2), r.3, r.4))
+  where
+    last_there : (l : List Known) (a : Known) → get_elem? (l ++ a ∷ []) (length l) ≡ some a
+    last_there [] a = refl
+    last_there (x ∷ l) a = last_there l a
+
+    one_dealt : (lists : List Held) → 1 ≤ length lists → 1 ≤ length (take 1 lists)
+    one_dealt [] one = absurd (omega arith)
+    one_dealt (held ∷ lists) one = omega arith
+
 -- A list is dealt out.
 pub deals : (key : Opening) (id : ℕ) (v : Known) → v.turn ≡ false → 1 ≤ length v.lists → Splits (IsOneJournal key) id v (left_over v) (dealt v)
 deals key id v idle listed s h at =
@@ -104,6 +126,7 @@ deals key id v idle listed s h at =
       words = h.words;
       each = each_more (Fits start h.log h.turn h.seat owner) s.views id (left_over v) (dealt v)
           (λ j u apart there. let fits = h.each j u there in record {
+            begun = fits.begun;
             seen = fits.seen;
             heard = fits.heard;
             lists = owned_apart u.lists h.log h.owner owner j j number (λ n other is. given_else h.owner number to n j other is)
@@ -111,8 +134,9 @@ deals key id v idle listed s h at =
             apart = fits.apart;
             holder = fits.holder;
           })
-          (record { seen = mine.seen; heard = mine.heard; lists = left_owned v.lists h.log h.owner id to mine.apart mine.lists; apart = left_apart v.lists mine.apart; holder = λ on. absurd (off (sym idle ∙ on)) })
-          (record { seen = mine.seen; heard = tt; lists = dealt_owned v.lists h.log h.owner id to mine.lists; apart = dealt_apart v.lists; holder = λ on. absurd (off on) });
+          (record { begun = mine.begun; seen = mine.seen; heard = mine.heard; lists = left_owned v.lists h.log h.owner id to mine.apart mine.lists; apart = left_apart v.lists mine.apart; holder = λ on. absurd (off (sym idle ∙ on)) })
+          (record { begun = mine.begun; seen = mine.seen; heard = tt; lists = dealt_owned v.lists h.log h.owner id to mine.lists; apart = dealt_apart v.lists; holder = λ on. absurd (off on) });
+      reached = reached_dealt s.views id v (start ++ entries_of h.log) at listed h.reached;
       home = h.home;
       holder = λ busy. let held = h.holder busy in (held.0, holder_more s.views id h.seat v (left_over v) (dealt v) held.0 at idle held.1 held.2, held.2);
       lists = omega (arith, total_append lists_known (set s.views id (left_over v)) (dealt v), total_set lists_known s.views id v (left_over v) at, length_split v.lists, h.lists);
@@ -136,6 +160,45 @@ longer_begins one other journal p q = by_case (_)
     by_case true = q
     by_case false = p
 
+-- The longer of two beginnings of a journal extends the one, and is the journal where either is.
+longer_extends : (one other journal : List Entry) → IsPrefix one journal → IsPrefix other journal → IsPrefix one (longer one other)
+longer_extends one other journal p q = by_case (nat_le (length one) (length other)) refl
+  where
+    by_case : (b : Bool) → nat_le (length one) (length other) ≡ b → IsPrefix one (cond b other one)
+    by_case true is = prefix_shorter one other journal p q (leb-true _ _ is)
+    by_case false is = prefix_same one one refl
+
+longer_whole : (one other journal : List Entry) → IsPrefix one journal → IsPrefix other journal → (one ≡ journal) ⊎ (other ≡ journal) → longer one other ≡ journal
+longer_whole one other journal p q either = by_case (nat_le (length one) (length other)) refl either
+  where
+    by_case : (b : Bool) → nat_le (length one) (length other) ≡ b → (one ≡ journal) ⊎ (other ≡ journal) → cond b other one ≡ journal
+    by_case true is (inl e) = prefix_whole other journal q (omega (arith, leb-true _ _ is, ap length e))
+    by_case true is (inr e) = e
+    by_case false is (inl e) = e
+    by_case false is (inr e) = let far = leb-false _ _ is in prefix_whole one journal p (omega (arith, far, ap length e))
+
+-- Who had seen the whole journal still has, or the seat that has taken it in.
+reached_joined : (views : List Known) (id other : ℕ) (v w : Known) (journal : List Entry) → id ≢ other → get_elem? views id ≡ some v → get_elem? views other ≡ some w
+    → IsPrefix v.seen journal → IsPrefix w.seen journal → IsReached journal views → IsReached journal (set (set views id (joined v w)) other nobody)
+reached_joined views id other v w journal apart at found p q r = dite (ℕ_discrete r.0 id)
+    (λ same.
+    let e : r.1 ≡ v = some-injective r.1 v (sym r.2 ∙ ap (λ n. get_elem? views n) same ∙ at) in
+    here (inl (sym (ap (λ (k : Known). k.seen) e) ∙ r.3)) (omega (arith, length-append w.lists v.lists, ap (λ (k : Known). length k.lists) e, r.4)))
+    (λ far. dite (ℕ_discrete r.0 other)
+    (λ same.
+    let e : r.1 ≡ w = some-injective r.1 w (sym r.2 ∙ ap (λ n. get_elem? views n) same ∙ found) in
+    here (inr (sym (ap (λ (k : Known). k.seen) e) ∙ r.3)) (omega (arith, length-append w.lists v.lists, ap (λ (k : Known). length k.lists) e, r.4)))
+    (λ too. (r.0, r.1, set_else (set views id (joined v w)) other r.0 nobody too ∙ set_else views id r.0 (joined v w) far ∙ r.2, r.3, r.4)))
+  where
+    here : (v.seen ≡ journal) ⊎ (w.seen ≡ journal) → 1 ≤ length (w.lists ++ v.lists) → IsReached journal (set (set views id (joined v w)) other nobody)
+    here either listed = (
+      id,
+      joined v w,
+      set_else (set views id (joined v w)) other id nobody apart ∙ set_here views id (joined v w) (within views id v at),
+      longer_whole v.seen w.seen journal p q either,
+      listed,
+    )
+
 -- A seat is taken in.
 pub joins : (key : Opening) (id other : ℕ) (v w : Known) → v.turn ≡ false → w.turn ≡ false → Joins (IsOneJournal key) id v other w (joined v w) nobody
 joins key id other v w idle other_idle s h at apart there =
@@ -147,13 +210,14 @@ joins key id other v w idle other_idle s h at apart there =
     let kept : AllByRecursion (IsOwned h.log owner id) v.lists = owned_by v.lists h.log h.owner owner id id (λ n is. moved_else h.owner other id n id (λ e. apart (sym e)) is) mine.lists in
     let came : AllByRecursion (IsOwned h.log owner id) w.lists = owned_by w.lists h.log h.owner owner other id (λ n is. moved_theirs h.owner other id n is) theirs.lists in
     let both : Fits start h.log h.turn h.seat owner id (joined v w) = record {
+      begun = λ opening is. prefix_trans start v.seen (longer v.seen w.seen) (mine.begun opening is) (longer_extends v.seen w.seen _ mine.seen theirs.seen);
       seen = longer_begins v.seen w.seen _ mine.seen theirs.seen;
       heard = (mine.seen, (theirs.seen, all_append _ v.heard w.heard mine.heard theirs.heard));
       lists = all_append (IsOwned h.log owner id) w.lists v.lists came kept;
       apart = apart_append w.lists v.lists h.log h.owner other id apart theirs.lists mine.lists theirs.apart mine.apart;
       holder = λ on. absurd (off on);
     } in
-    let spent : Fits start h.log h.turn h.seat owner other nobody = record { seen = (_, refl); heard = tt; lists = tt; apart = tt; holder = λ on. absurd (off on) } in
+    let spent : Fits start h.log h.turn h.seat owner other nobody = record { begun = λ opening is. cc; seen = (_, refl); heard = tt; lists = tt; apart = tt; holder = λ on. absurd (off on) } in
     let one = total_set lists_known s.views id v (joined v w) at in
     let two = total_set lists_known (set s.views id (joined v w)) other w nobody there in
     let first = total_set entries_known s.views id v (joined v w) at in
@@ -167,6 +231,7 @@ joins key id other v w idle other_idle s h at apart there =
       each = each_set (Fits start h.log h.turn h.seat owner) (set s.views id (joined v w)) other nobody
           (λ j u far at_j. each_set (λ i x. i ≢ other → Fits start h.log h.turn h.seat owner i x) s.views id (joined v w)
           (λ i x not_id at_i not_other. let fits = h.each i x at_i in record {
+            begun = fits.begun;
             seen = fits.seen;
             heard = fits.heard;
             lists = owned_by x.lists h.log h.owner owner i i (λ n is. moved_else h.owner other id n i not_other is) fits.lists;
@@ -175,6 +240,7 @@ joins key id other v w idle other_idle s h at apart there =
           })
           (λ _. both) j u at_j far)
           spent;
+      reached = reached_joined s.views id other v w (start ++ entries_of h.log) (λ e. apart (sym e)) at found mine.seen theirs.seen h.reached;
       home = h.home;
       holder = λ busy. let held = h.holder busy in (
         held.0,

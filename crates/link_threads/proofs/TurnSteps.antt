@@ -38,6 +38,7 @@ total_kept count views id v w n at same e = omega (arith, total_set count views 
 -- A view that fits while nobody has the turn fits whoever gets it.
 idle_fits : (start : List Entry) (log : List (ℕ × Entry)) (turn seat now to : ℕ) (owner : ℕ → ℕ) (by : ℕ) (u : Known) → turn ≡ 0 → Fits start log turn seat owner by u → Fits start log now to owner by u
 idle_fits start log turn seat now to owner by u free fits = record {
+  begun = fits.begun;
   seen = fits.seen;
   heard = fits.heard;
   lists = fits.lists;
@@ -49,6 +50,7 @@ idle_fits start log turn seat now to owner by u free fits = record {
 won_fits : (key : Opening) (log : List (ℕ × Entry)) (turn seat : ℕ) (owner : ℕ → ℕ) (id : ℕ) (v : Known) (craft : Aircraft) → craft.journal ≡ key.craft.value.journal ++ entries_of log → 1 ≤ length v.lists
     → Fits key.craft.value.journal log turn seat owner id v → Fits key.craft.value.journal log 1 id owner id (with_turn v craft.journal)
 won_fits key log turn seat owner id v craft whole listed fits = record {
+  begun = λ opening is. (entries_of log, sym whole);
   seen = prefix_same craft.journal (key.craft.value.journal ++ entries_of log) whole;
   heard = fits.heard;
   lists = fits.lists;
@@ -79,6 +81,7 @@ try_moves key id v opened listed s h size at below = dite (ℕ_discrete (slice_i
         each = each_set (Fits start h.log 1 id h.owner) s.views id w
             (λ j u apart there. idle_fits start h.log h.turn h.seat 1 id h.owner j u open_turn (h.each j u there))
             (won_fits key h.log h.turn h.seat h.owner id v craft home.2 listed mine);
+        reached = (id, w, set_here s.views id w (within s.views id v at), home.2, listed);
         home = λ e. absurd (omega arith);
         holder = λ _. (w, set_here s.views id w (within s.views id v at), refl);
         lists = total_kept lists_known s.views id v w key.count at refl h.lists;
@@ -108,12 +111,19 @@ others_count : (start : List Entry) (log : List (ℕ × Entry)) (turn seat : ℕ
 others_count start log turn seat owner id number entry j u same mine apart fits =
     let longer : start ++ entries_of (log ++ (number, entry) ∷ []) ≡ (start ++ entries_of log) ++ entry ∷ [] = ap (λ l. start ++ l) (entries_of_push log number entry) ∙ sym (append_assoc start (entries_of log) (entry ∷ [])) in
     record {
+      begun = fits.begun;
       seen = subst (λ l. IsPrefix u.seen l) (sym longer) (prefix_more u.seen _ (entry ∷ []) fits.seen);
       heard = subst (λ l. AllByRecursion (λ journal. IsPrefix journal l) u.heard) (sym longer) (all_weaker _ _ (λ journal h. prefix_more journal _ (entry ∷ []) h) u.heard fits.heard);
       lists = owned_other u.lists log owner j number entry (not_theirs u.lists log owner j id number mine apart fits.lists) fits.lists;
       apart = fits.apart;
       holder = λ on. absurd (apart ((fits.holder on).1 ∙ same));
     }
+
+-- The whole journal then.
+counted_whole : (start : List Entry) (log : List (ℕ × Entry)) (number : ℕ) (entry : Entry) (seen journal : List Entry) → seen ≡ start ++ entries_of log → journal ≡ seen ++ entry ∷ []
+    → journal ≡ start ++ entries_of (log ++ (number, entry) ∷ [])
+counted_whole start log number entry seen journal whole is =
+    is ∙ ap (λ l. l ++ entry ∷ []) whole ∙ append_assoc start (entries_of log) (entry ∷ []) ∙ ap (λ l. start ++ l) (sym (entries_of_push log number entry))
 
 -- What the seat itself knows then.
 mine_count : (start : List Entry) (log : List (ℕ × Entry)) (turn seat : ℕ) (owner : ℕ → ℕ) (id : ℕ) (entry : Entry) (v : Known) (journal : List Entry) → v.turn ≡ true → journal ≡ v.seen ++ entry ∷ []
@@ -125,6 +135,7 @@ mine_count start log turn seat owner id entry v journal on is fits =
     let whole : journal ≡ start ++ entries_of (log ++ (number, entry) ∷ []) = is ∙ ap (λ l. l ++ entry ∷ []) hold.2 ∙ sym longer in
     let new : drop (length v.seen) journal ≡ entry ∷ [] = ap (λ l. drop (length v.seen) l) is ∙ drop_at v.seen (entry ∷ []) (length v.seen) refl in
     record {
+      begun = λ opening is. (entries_of (log ++ (number, entry) ∷ []), sym whole);
       seen = prefix_same journal _ whole;
       heard = subst (λ l. AllByRecursion (λ journal. IsPrefix journal l) v.heard) (sym longer) (all_weaker _ _ (λ journal h. prefix_more journal _ (entry ∷ []) h) v.heard fits.heard);
       lists = subst (λ l. AllByRecursion (IsOwned (log ++ (number, entry) ∷ []) owner id) (onto_first l v.lists)) (sym new) (owned_first v.lists log owner id entry hold.3 fits.apart fits.lists);
@@ -158,6 +169,13 @@ count_moves key id v craft entry on is fits s h size at below =
         each = each_set (Fits start log 1 id h.owner) s.views id w
             (λ j u apart there. others_count start h.log h.turn h.seat h.owner id number entry j u (sym hold.1) (first_owned v.lists h.log h.owner id hold.3 mine.lists) apart (h.each j u there))
             (mine_count start h.log h.turn h.seat h.owner id entry v craft.journal on is mine);
+        reached = (
+          id,
+          w,
+          set_here s.views id w (within s.views id v at),
+          counted_whole start h.log number entry v.seen craft.journal hold.2 is,
+          subst (λ n. 1 ≤ n) (sym (length_onto_first (drop (length v.seen) craft.journal) v.lists)) hold.3,
+        );
         home = λ e. absurd (omega arith);
         holder = λ _. (w, set_here s.views id w (within s.views id v at), on);
         lists = total_kept lists_known s.views id v w key.count at (length_onto_first (drop (length v.seen) craft.journal) v.lists) h.lists;
@@ -187,8 +205,9 @@ free_moves key id v craft on is setting s h size at below =
         owner = h.owner;
         words = freed_words s.words _ h.turn h.words;
         each = each_set (Fits start h.log 0 id h.owner) s.views id w
-            (λ j u apart there. let fits = h.each j u there in record { seen = fits.seen; heard = fits.heard; lists = fits.lists; apart = fits.apart; holder = λ o. absurd (apart ((fits.holder o).1 ∙ sym hold.1)) })
-            (record { seen = mine.seen; heard = mine.heard; lists = mine.lists; apart = mine.apart; holder = λ o. absurd (off o) });
+            (λ j u apart there. let fits = h.each j u there in record { begun = fits.begun; seen = fits.seen; heard = fits.heard; lists = fits.lists; apart = fits.apart; holder = λ o. absurd (apart ((fits.holder o).1 ∙ sym hold.1)) })
+            (record { begun = mine.begun; seen = mine.seen; heard = mine.heard; lists = mine.lists; apart = mine.apart; holder = λ o. absurd (off o) });
+        reached = (id, w, set_here s.views id w (within s.views id v at), hold.2, hold.3);
         home = λ _. (craft, set_here s.homes 0 (some (Some craft)) (omega arith), is ∙ hold.2, setting);
         holder = λ busy. absurd (busy refl);
         lists = total_kept lists_known s.views id v w key.count at refl h.lists;

@@ -27,9 +27,11 @@ entries_held lists = map (λ held. held.entries) lists
 abbrev pub IsOwned : List (ℕ × Entry) → (ℕ → ℕ) → ℕ → Held → Type 0
 IsOwned log owner by held = (held.entries ≡ with_number held.number log) × (owner held.number ≡ by)
 
--- What a seat knows is right: what it has seen and what it was told of begin the journal, its lists are those of its numbers, and if it
--- has the turn, no other seat has it, and it has seen the whole journal.
+-- What a seat knows is right: the journal of the start begins what it has seen, unless it was taken in; what it has seen and what it was
+-- told of begin the journal, its lists are those of its numbers, and if it has the turn, no other seat has it, and it has seen the whole
+-- journal.
 pub record Fits (start : List Entry) (log : List (ℕ × Entry)) (turn seat : ℕ) (owner : ℕ → ℕ) (by : ℕ) (view : Known) : Type 0 where
+  pub begun : (opening : Aircraft) → view.start ≡ Some opening → IsPrefix start view.seen
   pub seen : IsPrefix view.seen (start ++ entries_of log)
   pub heard : AllByRecursion (λ journal. IsPrefix journal (start ++ entries_of log)) view.heard
   pub lists : AllByRecursion (IsOwned log owner by) view.lists
@@ -52,8 +54,13 @@ entries_known view = entries_in (entries_held view.lists)
 abbrev pub IsAtHome : Opening → List Entry → List (maybe.Option (Option Aircraft)) → Type 0
 IsAtHome key journal homes = (craft : Aircraft) × (get_elem? homes 0 ≡ some (some (Some craft))) × (craft.journal ≡ journal) × (craft.setting ≡ key.craft.value.setting)
 
--- The rule: there is a log of numbered entries, the journal is the one at the start and these entries, and each view fits it. While nobody
--- has the turn, the aircraft is at home. The views have as many lists as there are passes, and these have all entries of the log.
+-- Some seat with a list has seen this whole journal.
+abbrev pub IsReached : List Entry → List Known → Type 0
+IsReached journal views = (by : ℕ) × (view : Known) × (get_elem? views by ≡ some view) × (view.seen ≡ journal) × (1 ≤ length view.lists)
+
+-- The rule: there is a log of numbered entries, the journal is the one at the start and these entries, and each view fits it. Some pass has
+-- seen the whole journal, so the count of its entries is the length of the longest journal that a pass has seen. While nobody has the turn,
+-- the aircraft is at home. The views have as many lists as there are passes, and these have all entries of the log.
 pub record IsOneJournal (key : Opening) (s : State (Option Aircraft) Known) : Type 0 where
   pub log : List (ℕ × Entry)
   pub turn : ℕ
@@ -61,6 +68,7 @@ pub record IsOneJournal (key : Opening) (s : State (Option Aircraft) Known) : Ty
   pub owner : ℕ → ℕ
   pub words : s.words ≡ (length key.craft.value.journal + length log) ∷ turn ∷ []
   pub each : (by : ℕ) (view : Known) → get_elem? s.views by ≡ some view → Fits key.craft.value.journal log turn seat owner by view
+  pub reached : IsReached (key.craft.value.journal ++ entries_of log) s.views
   pub home : turn ≡ 0 → IsAtHome key (key.craft.value.journal ++ entries_of log) s.homes
   pub holder : turn ≢ 0 → (view : Known) × (get_elem? s.views seat ≡ some view) × (view.turn ≡ true)
   pub lists : total lists_known s.views ≡ key.count

@@ -15,6 +15,7 @@ use std::snapshot::Snapshot;
 
 /// Lays the craft on a table of its own, with the first seat, which has the lists of all passes.
 pub(crate) fn lay(alloc: Global, craft: Craft, count: usize) -> Result<(Desk, Place), Unstarted>
+    requires { 1 ≤ count }
     ensures seat { IfOk result (λ laid. IsSeatAt laid.0.shared.table_id laid.1) }
     ensures craft { IfOk result (λ laid. laid.0.shared.key.craft.value ≡ craft) }
     ensures count { IfOk result (λ laid. laid.0.shared.key.count ≡ count) }

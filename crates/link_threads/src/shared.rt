@@ -1,5 +1,5 @@
 //! The shared aircraft.
-ghost use Rattle.std.specs.Prelude.{◌≡◌, ◌≤◌, ◌<◌, length, All, IfOk, IfErr, OnOk};
+ghost use Rattle.std.specs.Prelude.{◌≡◌, ◌≤◌, ◌<◌, length, All, IfOk, IfErr, IsOk, OnOk};
 ghost use Rattle.aircraft_core.specs.Entries.{IsTakenBy};
 ghost use Rattle.link_threads.specs.Passes.{IsPassOf, IsNewPassOf, IsNoteOf, HasEntered, HasLooked, AreBytesFrom, IsLonger, IsLeftBy};
 
@@ -181,10 +181,11 @@ impl Shared {
     ///
     /// Its setting is that of the start. Its journal is the one of the start, and then an
     /// interleaving of what the passes took, each list whole and in its order; what each pass has
-    /// seen begins it. `Unclosed` is for want of memory, with all untouched: ending takes none.
+    /// seen begins it. It takes no memory, so it is never refused: `Unclosed` doesn't come.
     pub fn close(self, _alloc: Global, passes: Vec<Pass>) -> Result<Craft, Unclosed>
         requires passes { All (IsPassOf self) passes.items }
         requires count { length passes.items ≡ self.passes }
+        ensures ends { IsOk result }
         ensures left { IfOk result (IsLeftBy self passes.items) }
         ensures shared { IfErr result (λ refused. refused.shared ≡ self) }
         ensures back { IfErr result (λ refused. refused.passes.items ≡ passes.items) }
