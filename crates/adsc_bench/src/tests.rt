@@ -1,4 +1,5 @@
-//! Whole runs and showings over sources and sinks in memory. The texts were made by another program, from the tables of the formats.
+//! Whole runs and showings over sources and sinks in memory. The texts were made by another program, from the tables
+//! of the formats.
 mod command_lines;
 mod faults;
 mod gates;

@@ -1,8 +1,8 @@
 //! Sources and sinks of which one call fails, at each call in turn.
 use super::*;
 
-/// How the program ends on these words, with a source of piece 1 of which this call fails, and what it writes. Only that call may be
-/// counted as a fault, and only if it was made.
+/// How the program ends on these words, with a source of piece 1 of which this call fails, and what it writes. Only
+/// that call may be counted as a fault, and only if it was made.
 fn read_faultily<Rt: Threads + Wait + Sync>(
     rt: &Rt,
     alloc: Global,

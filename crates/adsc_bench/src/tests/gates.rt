@@ -164,8 +164,8 @@ fn two_workers_run_at_once(rt: HostRuntime) -> Result<(), Fail> {
     Ok(())
 }
 
-/// A gate that counts what it is told, by the line: four bits for each line below 16. And it keeps the order of what it is told, where one
-/// worker tells it: five bits each, the line and whether its entry was taken.
+/// A gate that counts what it is told, by the line: four bits for each line below 16. And it keeps the order of what
+/// it is told, where one worker tells it: five bits each, the line and whether its entry was taken.
 #[derive(Debug, Drop)]
 struct Counting {
     befores: AtomicU64,
@@ -238,7 +238,8 @@ U,/GRND002.ADS.N123450701BD4F
 #[test]
 fn the_gate_is_told_of_each_entry_of_a_burst(rt: HostRuntime) -> Result<(), Fail> {
     let alloc = rt.alloc();
-    // Lines 5, 7 and 8, each once; and where one worker takes them, in their order, each before it is taken and then after.
+    // Lines 5, 7 and 8, each once; and where one worker takes them, in their order, each before it is taken and then
+    // after.
     let counts = 0x1_1010_0000;
     let order: u64 = 0b01010_01011_01110_01111_10000_10001;
     for workers in ["1", "2", "3", "4", "5"] {

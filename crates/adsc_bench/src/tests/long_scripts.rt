@@ -86,7 +86,8 @@ fn waypoint_at(moment: u32) -> u32 {
     }
 }
 
-/// The script of a day over the ocean: a sample and a tick every 30 s, one centre from the beginning, and another that takes over.
+/// The script of a day over the ocean: a sample and a tick every 30 s, one centre from the beginning, and another
+/// that takes over.
 fn ocean_script(alloc: Global) -> Result<String, Fail> {
     let mut script = String::from_str(
         alloc,

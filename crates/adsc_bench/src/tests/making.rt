@@ -1,8 +1,8 @@
 //! Generated scripts. The texts were made by another program, from the tables of the formats.
 use super::*;
 
-/// The status of `make` with these words behind it, over a source that can't be read and a sink of which these writes fail, and what was
-/// written. A write takes 40 bytes.
+/// The status of `make` with these words behind it, over a source that can't be read and a sink of which these writes
+/// fail, and what was written. A write takes 40 bytes.
 fn make_of<Rt: Threads + Wait + Sync>(
     rt: &Rt,
     alloc: Global,

@@ -1,5 +1,5 @@
-//! Whole scripts, each with what is written of it, on every number of workers and from sources of pieces of every size. The texts were
-//! made by another program, from the tables of the formats.
+//! Whole scripts, each with what is written of it, on every number of workers and from sources of pieces of every
+//! size. The texts were made by another program, from the tables of the formats.
 use super::*;
 
 /// A script by its head and its further lines, how its run ends, and what is written.

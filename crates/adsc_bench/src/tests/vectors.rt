@@ -5,8 +5,8 @@ use adsc_requests::decode_uplink;
 /// A refusal's bit, reason, number and octet.
 type Refused = (u32, u8, u8, u8);
 
-/// The octets of a payload, its check, the refusal if there is one, and the answer of a link that is live, without what stands before
-/// its octets.
+/// The octets of a payload, its check, the refusal if there is one, and the answer of a link that is live, without
+/// what stands before its octets.
 const CUTS: [(&str, &str, Option<Refused>, &str); 70] = [
     ("", "211F", Some((0, 9, 0, 1)), "040009DC31"),
     ("01", "256D", None, ""),
