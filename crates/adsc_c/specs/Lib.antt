@@ -1,0 +1,3 @@
+pub mod Statuses
+pub mod Uplinks
+pub mod Envelopes
