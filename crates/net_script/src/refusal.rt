@@ -37,6 +37,9 @@ pub enum Code {
     Nothing,
     /// The line is longer than 4096 bytes. The value is 4096.
     Long,
+    /// A recorded downlink stands before the first line that makes an entry, in a log that is
+    /// audited. The value is 0.
+    Early,
 }
 
 /// A bad line of a script.

@@ -137,6 +137,7 @@ code_text code.Logon = codes "LOGON"
 code_text code.Waiting = codes "WAITING"
 code_text code.Nothing = codes "NOTHING"
 code_text code.Long = codes "LONG"
+code_text code.Early = codes "EARLY"
 
 -- the line of a bad line: its number, code and value
 abbrev pub bad_line : BadLine → List ℕ

@@ -51,5 +51,6 @@ fn code_word(code: Code) -> &'static [u8]
         Code::Waiting => b"WAITING",
         Code::Nothing => b"NOTHING",
         Code::Long => b"LONG",
+        Code::Early => b"EARLY",
     }
 }
