@@ -272,7 +272,7 @@ answer_leads order setting log number link answer now inside goes = at (same_tex
     at true goes =
         let taken = taken_goes order log number link (Entered (Answer number link answer.code) ∷ []) now goes in
         leads order setting log number now (Entered (Answer number link answer.code)) taken.1
-        (record { of_line = refl; taken = (inside, answer.one_digit); text = taken.0 })
+        (record { of_line = refl; taken = inside; text = taken.0 })
 
 characters_lead : (order : List ℕ) (setting : Setting) (log : List Happening) (number link : ℕ) (answer : Result LogonAnswer AfnRefusal) (now : List Happening)
     → link < length setting.addresses → GoesTo order log number (characters_step setting log number link answer) now
