@@ -8,10 +8,8 @@ pub mod OutboxLaws
 pub mod OutcomeLaws
 pub mod OutgoingLaws
 pub mod OutputLaws
-pub mod ReadableLaws
 pub mod RowsLaws
 pub mod RunLaws
 pub mod StationLaws
 pub mod StepLaws
-pub mod TextLaws
 pub mod WorkerLaws

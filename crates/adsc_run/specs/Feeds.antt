@@ -6,7 +6,7 @@ use Rattle.adsc_io.specs.Inputs.{lines_before_limit}
 use Rattle.adsc_io.specs.Readers.{LinesRead, StandsIn}
 use Rattle.run_rules.specs.Runs.{IsScript, ReadsLines}
 use Rattle.run_rules.specs.declared.reading.Reading.{Reading}
-use Rattle.adsc_run.specs.Readable.{IsReadable}
+use Rattle.script_reading.specs.Readable.{IsReadable}
 use Rattle.adsc_run.specs.declared.feed.Next.{Next}
 use Rattle.adsc_run.specs.declared.feed.Next.TheVariants.{Line, End, Limit}
 

@@ -5,7 +5,6 @@ pub mod Outboxes
 pub mod OutcomeTexts
 pub mod Outcomes
 pub mod Outgoing
-pub mod Readable
 pub mod Stations
 pub mod UnderWay
 pub mod Workers

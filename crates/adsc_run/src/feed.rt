@@ -10,11 +10,11 @@ ghost use Rattle.adsc_io.specs.Lines.{IsUnbroken};
 ghost use Rattle.run_rules.specs.Readings.{ReadsLine};
 
 use crate::fault::RunFault;
-use crate::reading::{read_line, say_bad};
 use adsc_io::{Line, LineReader, MAX_LINE_BYTES, NoMemory, ReadFault, Source};
 use flight_samples::SampleReader;
 use net_script::Code;
 use run_rules::Reading;
+use script_reading::{read_line, say_bad};
 use std::alloc::Global;
 use std::mem;
 

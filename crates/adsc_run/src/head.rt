@@ -9,7 +9,7 @@ ghost use Rattle.run_rules.specs.declared.end.End.TheVariants.{Done};
 ghost use Rattle.run_rules.specs.declared.reading.Reading.{Reading as ReadingValue};
 ghost use Rattle.run_rules.specs.declared.reading.Reading.TheVariants.{Says};
 ghost use Rattle.adsc_run.specs.Feeds.{HasRead, found_in, line_read};
-ghost use Rattle.adsc_run.specs.Readable.{AreLinks, SaysRightly};
+ghost use Rattle.script_reading.specs.Readable.{AreLinks, SaysRightly};
 ghost use Rattle.adsc_run.specs.UnderWay.{IsInHead, IsInStage, StopsBy, StopsInHead, StopsSaying};
 
 use crate::ending::bad_line;

@@ -30,8 +30,6 @@ mod outcome;
 mod output;
 #[cfg(test)]
 mod output_tests;
-mod placed;
-mod reading;
 mod run;
 mod station;
 mod stations;

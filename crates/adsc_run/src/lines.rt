@@ -7,7 +7,7 @@ ghost use Rattle.run_rules.specs.Lines.{flight_step, step_of};
 ghost use Rattle.run_rules.specs.Orders.{is_burst_line};
 ghost use Rattle.run_rules.specs.Stages.{flying};
 ghost use Rattle.run_rules.specs.declared.reading.Reading.TheVariants.{Says};
-ghost use Rattle.adsc_run.specs.Readable.{IsReadable, SaysRightly};
+ghost use Rattle.script_reading.specs.Readable.{IsReadable, SaysRightly};
 
 use crate::course::Course;
 use crate::ending::bad_line;

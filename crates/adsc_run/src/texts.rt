@@ -6,7 +6,7 @@ ghost use Rattle.aircraft_core.specs.Entries.{IsTakenBy};
 ghost use Rattle.aircraft_core.specs.declared.entry.Entry.TheVariants as entries;
 ghost use Rattle.run_rules.specs.Texts.{answer_step, characters_place, characters_step, flight_place, link_to, notice_step, payload_happenings, refuses, takes, text_step, uplink_step};
 ghost use Rattle.run_rules.specs.declared.refused.RefusedWhy.TheVariants as why;
-ghost use Rattle.adsc_run.specs.Readable.{IsReadAnswer, IsReadText, IsReadUplink};
+ghost use Rattle.script_reading.specs.Readable.{IsReadAnswer, IsReadText, IsReadUplink};
 
 use crate::course::Course;
 use crate::ending::bad_line;

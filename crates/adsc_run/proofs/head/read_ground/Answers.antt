@@ -1,7 +1,7 @@
 use Rattle.std.proofs.Common.{◌≡◌, Err, refl, subst, rules}
 use Rattle.std.proofs.lemmas.Result.{IfErr-weaker, IfOk-weaker}
 use Rattle.run_rules.specs.Stages.{named, stage_behind}
-use Rattle.adsc_run.specs.Readable.{SaysRightly}
+use Rattle.script_reading.specs.Readable.{SaysRightly}
 use Rattle.adsc_run.specs.UnderWay.{IsInStage}
 use Rattle.adsc_run.proofs.HeadLaws.{said_stops, says_on}
 use Rattle.adsc_run.proofs.head.read_ground.Goals as goal

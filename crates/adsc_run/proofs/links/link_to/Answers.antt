@@ -1,6 +1,6 @@
 use Rattle.std.proofs.Common.{◌≡◌, rules, arith}
 use Rattle.aircraft_core.specs.Setting.{address_of}
-use Rattle.adsc_run.proofs.TextLaws.{link_found, link_passed}
+use Rattle.script_reading.proofs.TextLaws.{link_found, link_passed}
 use Rattle.adsc_run.proofs.links.link_to.Goals as goal
 
 pub returns-then-eq-clause-place : goal.returns-then-eq-clause-place

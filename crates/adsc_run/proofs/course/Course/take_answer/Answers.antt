@@ -1,6 +1,6 @@
 use Rattle.std.proofs.Common.{◌≡◌, false, true, rules, sym}
 use Rattle.run_rules.specs.Texts.{same_text}
-use Rattle.adsc_run.proofs.TextLaws.{text_is, text_is_other}
+use Rattle.script_reading.proofs.TextLaws.{text_is, text_is_other}
 use Rattle.adsc_run.proofs.course.Course.take_answer.Goals as goal
 
 pub returns-then-eq : goal.returns-then-eq

@@ -7,6 +7,7 @@ ghost use Rattle.run_rules.specs.Places.{IsInPlace};
 ghost use Rattle.run_rules.specs.Readings.{ReadsLine};
 ghost use Rattle.run_rules.specs.declared.reading.Reading.TheVariants as readings;
 ghost use Rattle.ground_texts.specs.Readings.{ReadsText};
+ghost use Rattle.script_reading.specs.Readable.{IsReadable};
 ghost use Rattle.ground_texts.specs.declared.ground_text.GroundText.{GroundText as GroundTextValue};
 
 use crate::placed::misplaced;
@@ -34,7 +35,7 @@ use std::alloc::Global;
 ///
 /// `samples` reads the columns of sample lines; one serves all lines of a run. The reading is written where the caller keeps it, since
 /// it is large; for want of memory it says nothing.
-pub(crate) fn read_line(
+pub fn read_line(
     samples: &mut SampleReader,
     alloc: Global,
     number: u32,
@@ -43,6 +44,7 @@ pub(crate) fn read_line(
 ) -> Result<(), NoMemory>
     requires unbroken { IsUnbroken line.now }
     ensures reads { OnOk result (ReadsLine number line.now reading.new) }
+    ensures readable { OnOk result (IsReadable reading.new) }
 {
     if line.len() > MAX_LINE_BYTES {
         say_bad(reading, Code::Long, MAX_LINE_BYTES as u32);
@@ -79,7 +81,7 @@ fn read_placed(
 
 /// Says that the line is bad.
 #[inline(never)]
-pub(crate) fn say_bad(reading: &mut Reading, code: Code, value: u32)
+pub fn say_bad(reading: &mut Reading, code: Code, value: u32)
     ensures { reading.new ≡ readings.Bad code value }
 {
     *reading = Reading::Bad { code, value };

@@ -1,6 +1,6 @@
 -- The laws of what a line holds that was read.
 use Rattle.std.proofs.Common.{◌≡◌, ◌≢◌, ℕ, ◌-◌, ◌<◌, ◌≤◌, true, List, length, drop, take, Option, Some, Result, Ok, Err, refl, sym, ap, ◌∙◌, subst, arith}
-use Rattle.std.specs.Prelude.{IsSome, nat_le}
+use Rattle.std.specs.Prelude.{IsSome, OnOk, nat_le}
 use Rattle.std.specs.List.{list_all}
 use Rattle.std.proofs.lemmas.Bool.{and_parts}
 use Rattle.std.proofs.lemmas.Bool.Decides.{nat_tests}
@@ -32,7 +32,7 @@ use Rattle.net_script.specs.declared.line.ScriptLine.TheVariants as line
 use Rattle.run_rules.specs.Readings.{ReadsLine}
 use Rattle.run_rules.specs.declared.reading.Reading.{Reading}
 use Rattle.run_rules.specs.declared.reading.Reading.TheVariants.{Bad, Says, Brings}
-use Rattle.adsc_run.specs.Readable.{AreLinks, IsReadAnswer, IsReadText, IsReadUplink, IsReadable, SaysRightly}
+use Rattle.script_reading.specs.Readable.{AreLinks, IsReadAnswer, IsReadText, IsReadUplink, IsReadable, SaysRightly}
 
 -- an uplink that a text is has 1 to 255 octets
 uplink_is_read : (address : List ℕ) (found : Body) (uplink : AdsUplink) → is_well_formed found ≡ true → ReadsBody address found (text.Ads uplink) → IsReadUplink uplink
@@ -104,3 +104,8 @@ pub readable : (number : ℕ) (bytes : List ℕ) (reading : Reading) → ReadsLi
 readable number bytes (Bad found value) reads = tt
 readable number bytes (Says value) reads = says_rightly number bytes value reads
 readable number bytes (Brings found) reads = text_is_read (drop reads.0 bytes) found reads.2
+
+-- What follows holds on the same answer.
+pub on_ok : {T E : Type 0} (result : Result T E) (P Q : Type 0) → (P → Q) → OnOk result P → OnOk result Q
+on_ok (Ok value) P Q follows holds = follows holds
+on_ok (Err error) P Q follows holds = tt
