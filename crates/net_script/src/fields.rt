@@ -29,8 +29,8 @@ fn count_commas(line: &[u8]) -> u16
     count
 }
 
-/// The field at the place, counted from 0; it is empty where the line has none there.
-pub(crate) fn field_at(line: &[u8], place: usize) -> &[u8]
+/// The field of a line at the place, counted from 0; it is empty where the line has none there. This project's profile.
+pub fn field_at(line: &[u8], place: usize) -> &[u8]
     ensures { result.now ≡ field_at (fields_of line.now) place }
 {
     let mut rest = line;
@@ -45,8 +45,8 @@ pub(crate) fn field_at(line: &[u8], place: usize) -> &[u8]
     first_field(rest)
 }
 
-/// What stands behind the first comma.
-pub(crate) fn behind_comma(text: &[u8]) -> Option<&[u8]>
+/// What stands behind the first comma of a text, or None where it has none. This project's profile.
+pub fn behind_comma(text: &[u8]) -> Option<&[u8]>
     ensures joined { IfSome result (λ rest.
         text.now ≡ field_at (fields_of text.now) 0 ++ comma ∷ rest.now) }
     ensures some { IfSome result (λ rest.

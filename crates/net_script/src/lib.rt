@@ -39,6 +39,7 @@ mod tests;
 mod values;
 
 pub use addresses::Addresses;
+pub use fields::{behind_comma, field_at};
 pub use laws::each_line_says_something_or_has_a_fault;
 pub use letter::{Letter, has_letter};
 pub use line::{Cancel, ScriptLine};
