@@ -1,6 +1,7 @@
 pub mod GroundLines
 pub mod GroundReadings
 pub mod Watching
+pub mod Waiting
 pub mod GroundHappenings
 pub mod Walks
 pub mod WatchedText

@@ -1,0 +1,2 @@
+pub mod GroundLineLaws
+pub mod WatchLaws
