@@ -13,6 +13,7 @@ use flight_samples::Sample;
 use std::alloc::Global;
 use std::test::Fail;
 
+mod live;
 mod logons;
 
 /// What comes to the aircraft.
@@ -262,21 +263,31 @@ fn scripts_are_answered(rt: HostRuntime) -> Result<(), Fail> {
 
 /// The aircraft after a script.
 fn flown(alloc: Global, script: &Script) -> Result<Craft, Fail> {
-    let mut addresses = Vec::new(alloc);
-    for name in script.addresses {
-        addresses.push(Address::new(name).ok_or("an address")?)?;
-    }
-    let who = Who {
-        registration: Registration::new(b"N12345").ok_or("a registration")?,
-        flight: Flight::new(b"ANZ1").ok_or("a flight")?,
-        airframe: 0xC8_12_34,
-        profile: script.profile,
-    };
-    let mut craft = craft(alloc, who, addresses.as_slice(), script.kept)?;
+    let addresses = addresses(alloc, script)?;
+    let mut craft = craft(alloc, who(script)?, addresses.as_slice(), script.kept)?;
     for came in script.came {
         enter(&mut craft, came)?;
     }
     Ok(craft)
+}
+
+/// The ground addresses of a script.
+fn addresses(alloc: Global, script: &Script) -> Result<Vec<Address>, Fail> {
+    let mut addresses = Vec::new(alloc);
+    for name in script.addresses {
+        addresses.push(Address::new(name).ok_or("an address")?)?;
+    }
+    Ok(addresses)
+}
+
+/// Who the aircraft of a script is.
+fn who(script: &Script) -> Result<Who, Fail> {
+    Ok(Who {
+        registration: Registration::new(b"N12345").ok_or("a registration")?,
+        flight: Flight::new(b"ANZ1").ok_or("a flight")?,
+        airframe: 0xC8_12_34,
+        profile: script.profile,
+    })
 }
 
 /// Keeps room for what came, and enters it.
