@@ -140,9 +140,9 @@ impl Watcher {
             → Watches self.new making (heard_in hearing past)) }
         ensures keeps { KeepsWatch self.old self.new }
     {
-        let waited = is_waiting(&self.centre.shown(Kind::Periodic));
+        let waited = is_waiting(&self.periodic_row());
         let heard = self.centre.hear(text);
-        let still_waits = is_waiting(&self.centre.shown(Kind::Periodic));
+        let still_waits = is_waiting(&self.periodic_row());
         self.end_quiet(is_end_of_quiet(waited, still_waits, &heard));
         heard
     }
@@ -165,8 +165,15 @@ impl Watcher {
     pub fn late(&self) -> Option<u32>
         ensures { InPast self.now (λ making past. result ≡ late_at making self.now.grace past) }
     {
-        let interval = interval_in(&self.centre.shown(Kind::Periodic));
+        let interval = interval_in(&self.periodic_row());
         seconds_past(interval, self.quiet, self.grace, self.time)
+    }
+
+    /// Where the centre's periodic request stands.
+    fn periodic_row(&self) -> Shown
+        ensures { InHistory self.now.centre (λ w. result ≡ row_at kinds.Periodic w) }
+    {
+        self.centre.shown(Kind::Periodic)
     }
 
     /// The quiet ends now, if it does.

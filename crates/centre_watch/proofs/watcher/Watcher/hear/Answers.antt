@@ -24,7 +24,7 @@ returns-clause-stands c making past stood hearing says =
     watches_heard c.args.self.now c.end_quiet.new.self making past hearing c.hear-heard.result c.is_waiting-waited.result c.is_waiting-still_waits.result stood
     (subst (λ (v : WatcherView). IsAnswerTo v.centre hearing c.hear-heard.result) c.self.view_is (c.hear-heard.ensures.answer hearing said))
     (ap (λ (v : WatcherView). v.centre.table) c.end_quiet.ensures ∙ stands)
-    (c.is_waiting-waited.ensures ∙ ap waits (c.shown.ensures (events making past) centre))
-    (c.is_waiting-still_waits.ensures ∙ ap waits (c.shown-2.ensures (with_heard hearing (events making past)) stands))
+    (c.is_waiting-waited.ensures ∙ ap waits (c.periodic_row.ensures (events making past) stood.centre))
+    (c.is_waiting-still_waits.ensures ∙ ap waits (c.periodic_row-2.ensures (with_heard hearing (events making past)) stands))
     (subst (λ (ends : Bool). Ends c.args.self.now c.end_quiet.new.self ends) c.is_end_of_quiet.ensures
     (ended _ _ _ c.hear-heard.new.self c.is_end_of_quiet.result c.self.view_is c.end_quiet.ensures))
