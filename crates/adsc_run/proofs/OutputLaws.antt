@@ -1,15 +1,13 @@
 -- Texts that are put piece by piece.
-use Rattle.std.proofs.Common.{◌≡◌, ℕ, ◌+◌, ◌<◌, List, [], ◌∷◌, ◌++◌, length, take, drop, sym, ap, ◌∙◌, refl, append_assoc, append-nil, add-one, subst}
+use Rattle.std.proofs.Common.{◌≡◌, ℕ, ◌+◌, ◌<◌, List, [], ◌∷◌, ◌++◌, length, drop, sym, ap, ◌∙◌, refl, append_assoc, append-nil, add-one, subst}
 use Rattle.std.specs.List.{flat_map}
 use Rattle.std.proofs.Math.Seq.{drop-cons, drop-length}
-use Rattle.std.proofs.lemmas.List.{take_more}
-use Rattle.std.specs.Prelude.{codes, get_or}
+use Rattle.std.specs.Prelude.{codes}
 use Rattle.adsc_requests.specs.declared.kind.Kind.TheVariants.{Demand, Periodic, Event, Emergency}
 use Rattle.aircraft_core.specs.Downlinks.{AreDownlinks}
 use Rattle.aircraft_core.specs.LogonStates.{logon_state}
 use Rattle.aircraft_core.specs.Setting.{Setting, address_of}
 use Rattle.aircraft_core.specs.declared.entry.Entry.{Entry}
-use Rattle.centre_core.specs.Histories.{InHistory}
 use Rattle.aircraft_core.specs.Entries.{line_of}
 use Rattle.output_fields.specs.Fields.{number_field}
 use Rattle.run_rules.specs.Orders.{line_order}
@@ -18,7 +16,7 @@ use Rattle.run_rules.specs.declared.end.End.{End}
 use Rattle.run_rules.specs.declared.end.End.TheVariants.{Done}
 use Rattle.run_rules.specs.declared.refused.RefusedLine.{RefusedLine}
 use Rattle.adsc_io.specs.Lines.{ended}
-use Rattle.adsc_run.specs.OutcomeTexts.{AreLinesOfRow, AreLinesOfRows, IsOutcomeEnd, row_line_at}
+use Rattle.adsc_run.specs.OutcomeTexts.{IsOutcomeEnd, line_of_row, lines_of_row}
 use Rattle.adsc_run.specs.Outcomes.{journal_in, setting_in}
 use Rattle.adsc_run.specs.declared.outcome.Outcome.{Outcome}
 use Rattle.adsc_run.specs.Outgoing.{OnWay, Puts, PutsSuch}
@@ -91,40 +89,15 @@ links_all setting journal link before now end so_far = record {
 
 -- ---- the lines of the centres
 
--- one centre more
-rows_then : (rows : List CentreRow) (row : CentreRow) (text own : List ℕ) → AreLinesOfRows rows text → AreLinesOfRow row own
-    → AreLinesOfRows (rows ++ row ∷ []) (text ++ own)
-rows_then [] row text own none next = (own, [], next, refl, ap (λ t. t ++ own) none ∙ sym (append-nil own))
-rows_then (first ∷ rows) row text own (one, others, are_one, are_others, joined) next =
-    (one, others ++ own, are_one, rows_then rows row others own are_others next, ap (λ t. t ++ own) joined ∙ append_assoc one others own)
-
-pub rows_more : (rows : List CentreRow) (at : ℕ) (row : CentreRow) (before middle now : OnWay) → at < length rows → row ≡ get_or rows at row
-    → PutsSuch (AreLinesOfRows (take at rows)) before middle → PutsSuch (AreLinesOfRow row) middle now → PutsSuch (AreLinesOfRows (take (at + 1) rows)) before now
-rows_more rows at row before middle now within is one two = record {
-  text = one.text ++ two.text;
-  such = subst (λ so_far. AreLinesOfRows so_far (one.text ++ two.text))
-      (ap (λ (next : CentreRow). take at rows ++ next ∷ []) is ∙ sym (take_more rows at row within))
-      (rows_then (take at rows) row one.text two.text one.such two.such);
-  puts = puts_then before middle now one.text two.text one.puts two.puts;
-}
-
 -- the four lines of a centre
-pub four_rows : (row : CentreRow) (a b c d e : OnWay)
-    → PutsSuch (λ text. InHistory row.centre (λ w. text ≡ row_line_at row.address w Demand)) a b
-    → PutsSuch (λ text. InHistory row.centre (λ w. text ≡ row_line_at row.address w Periodic)) b c
-    → PutsSuch (λ text. InHistory row.centre (λ w. text ≡ row_line_at row.address w Event)) c d
-    → PutsSuch (λ text. InHistory row.centre (λ w. text ≡ row_line_at row.address w Emergency)) d e
-    → PutsSuch (AreLinesOfRow row) a e
-four_rows row a b c d e one two three four = record {
-  text = one.text ++ (two.text ++ (three.text ++ four.text));
-  such = λ w stands. ap (λ t. t ++ (two.text ++ (three.text ++ four.text))) (one.such w stands)
-      ∙ ap (λ t. row_line_at row.address w Demand ++ (t ++ (three.text ++ four.text))) (two.such w stands)
-      ∙ ap (λ t. row_line_at row.address w Demand ++ (row_line_at row.address w Periodic ++ (t ++ four.text))) (three.such w stands)
-      ∙ ap (λ t. row_line_at row.address w Demand ++ (row_line_at row.address w Periodic ++ (row_line_at row.address w Event ++ t)))
-      (four.such w stands ∙ sym (append-nil (row_line_at row.address w Emergency)));
-  puts = puts_then a b e one.text (two.text ++ (three.text ++ four.text)) one.puts
-      (puts_then b c e two.text (three.text ++ four.text) two.puts (puts_then c d e three.text four.text three.puts four.puts));
-}
+pub four_rows : (row : CentreRow) (a b c d e : OnWay) → Puts a b (line_of_row row Demand) → Puts b c (line_of_row row Periodic) → Puts c d (line_of_row row Event)
+    → Puts d e (line_of_row row Emergency) → Puts a e (lines_of_row row)
+four_rows row a b c d e one two three four =
+    puts_same a e _ (lines_of_row row)
+    (puts_then a b e (line_of_row row Demand) _ one
+    (puts_then b c e (line_of_row row Periodic) _ two
+    (puts_then c d e (line_of_row row Event) (line_of_row row Emergency) three four)))
+    (ap (λ t. line_of_row row Demand ++ (line_of_row row Periodic ++ (line_of_row row Event ++ t))) (sym (append-nil (line_of_row row Emergency))))
 
 -- ---- the journal line
 
@@ -138,15 +111,16 @@ numbers_of (entry ∷ entries) = ap (λ t. number_field (line_of entry) ++ t) (n
 -- the lines of a run that was done
 pub done_put : (outcome : Outcome) (refused : List RefusedLine) (rows : List CentreRow) (a b c d e : OnWay) → refused ≡ outcome.refused.items → rows ≡ outcome.centres.items
     → PutsSuch (AreLinesOfLinks (setting_in outcome.craft) (journal_in outcome.craft)) a b → Puts b c (flat_map refused_line refused)
-    → PutsSuch (AreLinesOfRows rows) c d → Puts d e (ended (codes "OK")) → PutsSuch (IsOutcomeEnd outcome Done) a e
+    → Puts c d (flat_map lines_of_row rows) → Puts d e (ended (codes "OK")) → PutsSuch (IsOutcomeEnd outcome Done) a e
 done_put outcome refused rows a b c d e refused_same rows_same links are_refused centres ok =
     let others : List ℕ = flat_map refused_line outcome.refused.items in
+    let own : List ℕ = flat_map lines_of_row outcome.centres.items in
     record {
-      text = links.text ++ (others ++ (centres.text ++ ended (codes "OK")));
-      such = (links.text, centres.text, links.such, subst (λ (some : List CentreRow). AreLinesOfRows some centres.text) rows_same centres.such, refl);
-      puts = puts_then a b e links.text (others ++ (centres.text ++ ended (codes "OK"))) links.puts
-          (puts_then b c e others (centres.text ++ ended (codes "OK")) (puts_same b c (flat_map refused_line refused) others are_refused (ap (flat_map refused_line) refused_same))
-          (puts_then c d e centres.text (ended (codes "OK")) centres.puts ok));
+      text = links.text ++ (others ++ (own ++ ended (codes "OK")));
+      such = (links.text, links.such, refl);
+      puts = puts_then a b e links.text (others ++ (own ++ ended (codes "OK"))) links.puts
+          (puts_then b c e others (own ++ ended (codes "OK")) (puts_same b c (flat_map refused_line refused) others are_refused (ap (flat_map refused_line) refused_same))
+          (puts_then c d e own (ended (codes "OK")) (puts_same c d (flat_map lines_of_row rows) own centres (ap (flat_map lines_of_row) rows_same)) ok));
     }
 
 -- a run that ended so

@@ -1,9 +1,8 @@
 //! The lines of the centres.
-ghost use Rattle.std.specs.Prelude.{◌≡◌, ◌+◌, ◌≤◌, ◌++◌, length};
-ghost use Rattle.adsc_run.specs.OutcomeTexts.{AreLinesOfRow, AreLinesOfRows, row_line_at};
-ghost use Rattle.adsc_run.specs.Outgoing.{PutsSuch, on_way};
+ghost use Rattle.std.specs.Prelude.{◌≡◌, ◌+◌, ◌≤◌, ◌++◌, flat_map, length};
+ghost use Rattle.adsc_run.specs.OutcomeTexts.{line_of_row, lines_of_row};
+ghost use Rattle.adsc_run.specs.Outgoing.{Puts, on_way};
 ghost use Rattle.arrayvec.specs.ArrayVec.{array_vec_len};
-ghost use Rattle.centre_core.specs.Histories.{InHistory};
 ghost use Rattle.centre_core.specs.Sending.{message_payload};
 ghost use Rattle.run_rules.specs.Output.{kind_letter as kind_letter_text, request_field, row_fields, row_line as row_line_text};
 
@@ -18,8 +17,8 @@ use output_fields::{Line, push, push_number, push_octets};
 
 /// Puts the lines of the centres of rows.
 pub(super) fn put_centres<K: Sink>(out: &mut Outgoing, sink: &mut K, rows: &[CentreRow])
-    ensures { PutsSuch (AreLinesOfRows rows.now)
-        (on_way (K.written sink.old) (K.faults sink.old) out.old) (on_way (K.written sink.new) (K.faults sink.new) out.new) }
+    ensures { Puts (on_way (K.written sink.old) (K.faults sink.old) out.old) (on_way (K.written sink.new) (K.faults sink.new) out.new)
+        (flat_map lines_of_row rows.now) }
 {
     for row in rows {
         put_centre(out, sink, row);
@@ -28,8 +27,8 @@ pub(super) fn put_centres<K: Sink>(out: &mut Outgoing, sink: &mut K, rows: &[Cen
 
 /// Puts the four lines of a centre.
 fn put_centre<K: Sink>(out: &mut Outgoing, sink: &mut K, row: &CentreRow)
-    ensures { PutsSuch (AreLinesOfRow row.now)
-        (on_way (K.written sink.old) (K.faults sink.old) out.old) (on_way (K.written sink.new) (K.faults sink.new) out.new) }
+    ensures { Puts (on_way (K.written sink.old) (K.faults sink.old) out.old) (on_way (K.written sink.new) (K.faults sink.new) out.new)
+        (lines_of_row row.now) }
 {
     put_row(out, sink, row, Kind::Demand);
     put_row(out, sink, row, Kind::Periodic);
@@ -39,8 +38,8 @@ fn put_centre<K: Sink>(out: &mut Outgoing, sink: &mut K, row: &CentreRow)
 
 /// Puts the line of a centre's row of this kind.
 fn put_row<K: Sink>(out: &mut Outgoing, sink: &mut K, row: &CentreRow, kind: Kind)
-    ensures { PutsSuch (λ text. InHistory row.now.centre (λ w. text ≡ row_line_at row.now.address w kind))
-        (on_way (K.written sink.old) (K.faults sink.old) out.old) (on_way (K.written sink.new) (K.faults sink.new) out.new) }
+    ensures { Puts (on_way (K.written sink.old) (K.faults sink.old) out.old) (on_way (K.written sink.new) (K.faults sink.new) out.new)
+        (line_of_row row.now kind) }
 {
     let line = row_line(row.address, kind, &row.centre.shown(kind));
     out.put(sink, line.as_slice());

@@ -1,6 +1,9 @@
-use Rattle.adsc_run.proofs.OutputLaws.{rows_more}
+use Rattle.std.proofs.Common.{ap}
+use Rattle.adsc_run.specs.OutcomeTexts.{lines_of_row}
+use Rattle.adsc_run.proofs.OutgoingLaws.{puts_more}
 use Rattle.adsc_run.proofs.output.centres.put_centres.Goals as goal
 
 pub loop-row-preserved : goal.loop-row-preserved
 loop-row-preserved g c =
-    rows_more c.args.rows.now c.loop-row.row-index c.row-item.result _ _ _ c.loop-row-test.true c.row-item.is c.loop-row.invariant c.put_centre.ensures
+    puts_more lines_of_row c.args.rows.now c.loop-row.row-index c.row-item.result _ _ _ _ c.loop-row-test.true c.loop-row.invariant c.put_centre.ensures
+    (ap lines_of_row c.row-item.is)
